@@ -1,0 +1,36 @@
+-- What an answer says, in document 01's terms: a refusal's number, "count 0" where refused, and the place of a fault; and how an
+-- answer is told to C. Document 01, "Refusal numbers".
+use Prim.Native.Nat.{ℕ, _+_, _*_, _/_, _%_, _^_, _<_}
+use mathlib.Core.Path.{_≡_}
+use Rattle.base.specs.declared.Answer.{Answer}
+use Rattle.base.specs.declared.Answer.the-variants.{Accepted, Refused}
+
+-- the refusal's number; 0, which is no refusal's, where the call was accepted
+abbrev pub number : Answer → ℕ
+number (Accepted v) = 0
+number (Refused n o) = n
+
+-- the value: a count, a length or a code, as the call says; 0 where it was refused
+abbrev pub value : Answer → ℕ
+value (Accepted v) = v
+value (Refused n o) = 0
+
+-- document 01's place: the offset in the listing of the first faulty entry; 0 where it was accepted, and where no entry is at fault
+abbrev pub offset : Answer → ℕ
+offset (Accepted v) = 0
+offset (Refused n o) = o
+
+-- the one number that C gets: the refusal's number above 32 bits, and in them its offset; or 0 and the value
+abbrev pub forC : Answer → ℕ
+forC (Accepted v) = v
+forC (Refused n o) = n * 2 ^ 32 + o
+
+-- value and offset are 32 bits each, as every `Answer` of the code has them
+pub record Fits (a : Answer) : Type 0 where
+  pub small-value : value a < 2 ^ 32
+  pub small-offset : offset a < 2 ^ 32
+
+-- C takes the number apart: above 32 bits the refusal's number, and in them the value where it is 0 and the offset where it is not
+pub record TakenApart (a : Answer) : Type 0 where
+  pub high : forC a / 2 ^ 32 ≡ number a
+  pub low : forC a % 2 ^ 32 ≡ value a + offset a

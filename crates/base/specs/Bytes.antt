@@ -1,0 +1,18 @@
+-- Lists of bytes: what a copy leaves, and a number as bytes.
+use Prim.Native.Nat.{ℕ, zero, suc, _+_, _*_, _/_, _%_, _^_}
+use mathlib.Core.List.{List, [], _∷_, _++_}
+use lib.ListN.{length, take, drop}
+
+-- `to`, with the bytes from index `at` on replaced by `from`: what a lent slice holds once `from` has been written there
+unfoldable pub overlay : List ℕ → ℕ → List ℕ → List ℕ
+overlay to at from = take at to ++ from ++ drop (at + length from) to
+
+-- the lowest n bytes of x, the highest of them first
+unfoldable pub bigEndian : ℕ → ℕ → List ℕ
+bigEndian zero x = []
+bigEndian (suc n) x = (x / 2 ^ (8 * n) % 2 ^ 8) ∷ bigEndian n x
+
+-- f 0, f 1, and so on, n of them
+unfoldable pub tabulate : (ℕ → ℕ) → ℕ → List ℕ
+tabulate f zero = []
+tabulate f (suc n) = tabulate f n ++ (f n ∷ [])

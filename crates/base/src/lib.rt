@@ -1,0 +1,27 @@
+// What every other crate stands on: the answer of a call, the refusal numbers, the test of a DHCID and the copy of bytes.
+pub mod dhcid;
+pub mod number;
+pub mod refusal;
+pub mod slice;
+
+ghost use mathlib.Core.Path.{_≡_};
+ghost use Rattle.base.specs.Answer as spec;
+
+// What a call answers: accepted, with a value that the call gives a meaning; or refused, with a number of `refusal`
+// and, where a listing was read, the offset of the faulty entry (document 01 calls it the place), else 0.
+pub enum Answer {
+    Accepted(u32),
+    Refused { number: u32, offset: u32 },
+}
+
+impl Answer {
+    // The answer as C gets it: the high 32 bits are the refusal's number, the low 32 bits its offset; or 0 and the value.
+    pub fn for_c(self) -> u64
+        ensures { λ r. ⌜ r ≡ spec.forC self ⌝ }
+    {
+        match self {
+            Answer::Accepted(value) => value as u64,
+            Answer::Refused { number, offset } => (number as u64) * 4294967296 + (offset as u64),
+        }
+    }
+}
