@@ -1,9 +1,10 @@
--- Laws of specs/Bytes.antt. Assumes nothing.
-use Prim.Native.Nat.{ℕ, _+_, _≤_}
-use mathlib.Core.Path.{_≡_, sym, ap, _∙_}
-use mathlib.Core.List.{List, _++_}
-use native.Mathlib.Nat.{le-refl}
-use lib.ListN.{length, take, drop}
+-- Laws of specs/Bytes.antt and of lists of equal bytes. Assumes nothing.
+use Prim.Native.Nat.{ℕ, zero, suc, _+_, _≤_}
+use mathlib.Core.Path.{_≡_, refl, sym, ap, _∙_}
+use mathlib.Core.List.{List, _∷_, _++_, append-nil}
+use native.Mathlib.Nat.{le-refl, not-suc-le-zero}
+use native.Mathlib.Omega.{arith}
+use lib.ListN.{length, take, drop, replicate, drop-of-length-le}
 use lib.Seq.{take-length, paste, length-paste, take-paste}
 use Rattle.base.specs.Bytes.{overlay}
 
@@ -20,3 +21,13 @@ take-overlay to at from fits =
     sym (ap (take (at + length from)) (paste-all to at from))
     ∙ take-paste to at from (length from) fits (le-refl (length from))
     ∙ ap (λ (l : List ℕ). take at to ++ l) (take-length from)
+
+pub take-replicate : (n k a : ℕ) → n ≤ k → take n (replicate k a) ≡ replicate n a
+take-replicate zero k a h = refl
+take-replicate (suc n) zero a h = absurd (not-suc-le-zero h)
+take-replicate (suc n) (suc k) a h = ap (_∷_ a) (take-replicate n k a (omega arith))
+
+pub overlay-to-end : (to : List ℕ) (at : ℕ) (from : List ℕ) → at + length from ≡ length to → overlay to at from ≡ take at to ++ from
+unfolding overlay
+overlay-to-end to at from e =
+    ap (λ (l : List ℕ). take at to ++ from ++ l) (drop-of-length-le to {i = at + length from} (omega arith)) ∙ append-nil (take at to ++ from)
