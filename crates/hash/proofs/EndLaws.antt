@@ -4,7 +4,7 @@ use mathlib.Core.Path.{_≡_, refl, sym, ap, ap₂, _∙_}
 use mathlib.Core.List.{List, [], _∷_, _++_, append-assoc, append-nil}
 use native.Mathlib.Omega.{arith}
 use native.Mathlib.Numerals.{add-one, one-add}
-use lib.ListN.{length, getD, take, replicate}
+use lib.ListN.{length, getD, take, replicate, length-replicate}
 use lib.Seq.{take-suc}
 use Rattle.base.specs.Bytes.{bigEndian, overlay}
 use Rattle.base.proofs.Bytes.{take-overlay, take-replicate}
@@ -18,18 +18,20 @@ padding-modulo n =
     let bits : 8 * (n % 2 ^ 64) % 2 ^ 64 ≡ 8 * n % 2 ^ 64 = omega arith in
     λ i. 0x80 ∷ replicate (zeros i) 0 ++ bigEndian 8 (bits i)
 
--- the byte 0x80, zeros, and the length in bits b written right after as many zeros as there are to be
-pub padding-written : (n : ℕ) (b : List ℕ) → b ≡ bigEndian 8 (n * 8 % 2 ^ 64) → length b ≡ 8
-    → take (9 + zeroBytes n) (overlay (0x80 ∷ replicate 71 0) (1 + zeroBytes n) b) ≡ padding n
+-- the length in bits, b, written into the byte 0x80 and k zeros, right after as many zeros as there are to be
+pub padding-written : (n k : ℕ) (b : List ℕ) → b ≡ bigEndian 8 (n * 8 % 2 ^ 64) → length b ≡ 8 → 63 ≤ k
+    → take (9 + zeroBytes n) (overlay (0x80 ∷ replicate k 0) (1 + zeroBytes n) b) ≡ padding n
 unfolding padding zeroBytes
-padding-written n b e long =
+padding-written n k b e long fits =
     let z : ℕ = (119 - n % 64) % 64 in
+    let p : List ℕ = 0x80 ∷ replicate k 0 in
     let size : 9 + z ≡ 1 + z + length b = omega arith in
+    let within : 1 + z ≤ length p = omega (arith, length-replicate {A = ℕ} k 0) in
     let bits : n * 8 % 2 ^ 64 ≡ 8 * n % 2 ^ 64 = omega arith in
-    ap (λ (k : ℕ). take k (overlay (0x80 ∷ replicate 71 0) (1 + z) b)) size
-    ∙ take-overlay (0x80 ∷ replicate 71 0) (1 + z) b (omega arith)
+    ap (λ (l : ℕ). take l (overlay p (1 + z) b)) size
+    ∙ take-overlay p (1 + z) b within
     ∙ ap₂ _++_
-    (ap (λ (k : ℕ). take k (0x80 ∷ replicate 71 0)) (one-add z) ∙ ap (λ (l : List ℕ). 0x80 ∷ l) (take-replicate z 71 0 (omega arith)))
+    (ap (λ (l : ℕ). take l p) (one-add z) ∙ ap (λ (l : List ℕ). 0x80 ∷ l) (take-replicate z k 0 (omega arith)))
     (e ∙ ap (bigEndian 8) bits)
 
 digest-append : (h : List ℕ) (w : ℕ) → digest (h ++ (w ∷ [])) ≡ digest h ++ bigEndian 4 w

@@ -124,16 +124,13 @@ fn rounds(w: [u32; 64], h: [u32; 8]) -> [u32; 8]
 fn sums(v: [u32; 8], h: [u32; 8]) -> [u32; 8]
     ensures { λ r. ⌜ r ≡ spec.sums v h ⌝ }
 {
-    [
-        add2(v[0], h[0]),
-        add2(v[1], h[1]),
-        add2(v[2], h[2]),
-        add2(v[3], h[3]),
-        add2(v[4], h[4]),
-        add2(v[5], h[5]),
-        add2(v[6], h[6]),
-        add2(v[7], h[7]),
-    ]
+    let mut s = [0u32; 8];
+    let mut i: usize = 0;
+    while i < 8 {
+        s[i] = add2(v[i], h[i]);
+        i += 1;
+    }
+    s
 }
 
 // The hash value after one more block.

@@ -1,112 +1,71 @@
-use mathlib.Core.List.{[], _∷_}
-use Rattle.base.specs.Bytes.{tabulate}
-use Rattle.hash.specs.Sha256.{sums}
 use borrow.Author.Needs.{needs}
+use native.Mathlib.Omega.{arith}
+use Prim.Native.Nat.{_-_}
+use mathlib.Core.Path.{refl}
+use lib.ListN.{getD}
+use Rattle.base.proofs.Fill.{Filled, filled-none, filled-more, filled-all}
+use Rattle.hash.specs.Sha256.{_⊞_, sums}
 use Rattle.hash.proofs.block.sums.Statement.{statement}
 use Rattle.hash.proofs.block.sums.Tie as tie
 
-array-read-add2 : tie.Need-array-read-add2
-array-read-add2 c = search needs
+abbrev Inv-loop : tie.InvT-loop
+Inv-loop v h s₀ i₀ s i = Filled (λ i. getD v i 0 ⊞ getD h i 0) 8 s i
 
-array-read-add2-2 : tie.Need-array-read-add2-2
-array-read-add2-2 c = search needs
+abbrev μ-loop : tie.MeasureT-loop
+μ-loop v h s₀ i₀ s i = 8 - i
 
-add2-requires : tie.Need-add2-requires
+loop-holds : tie.Need-loop-holds Inv-loop μ-loop
+loop-holds c = filled-none _ _ _ refl
+
+mul-add2 : tie.Need-mul-add2 Inv-loop μ-loop
+mul-add2 c = omega arith
+
+array-read-add2 : tie.Need-array-read-add2 Inv-loop μ-loop
+array-read-add2 c = omega arith
+
+mul-add2-2 : tie.Need-mul-add2-2 Inv-loop μ-loop
+mul-add2-2 c = omega arith
+
+array-read-add2-2 : tie.Need-array-read-add2-2 Inv-loop μ-loop
+array-read-add2-2 c = omega arith
+
+add2-requires : tie.Need-add2-requires Inv-loop μ-loop
 add2-requires c κs = search needs
 
-array-read-add2-3 : tie.Need-array-read-add2-3
-array-read-add2-3 c = search needs
+mul-s : tie.Need-mul-s Inv-loop μ-loop
+mul-s c = omega arith
 
-array-read-add2-4 : tie.Need-array-read-add2-4
-array-read-add2-4 c = search needs
+array-write-s : tie.Need-array-write-s Inv-loop μ-loop
+array-write-s c = omega arith
 
-add2-requires-2 : tie.Need-add2-requires-2
-add2-requires-2 c κs = search needs
+add-i : tie.Need-add-i Inv-loop μ-loop
+add-i c = omega arith
 
-array-read-add2-5 : tie.Need-array-read-add2-5
-array-read-add2-5 c = search needs
+loop-less : tie.Need-loop-less Inv-loop μ-loop
+loop-less c = omega arith
 
-array-read-add2-6 : tie.Need-array-read-add2-6
-array-read-add2-6 c = search needs
+loop-again : tie.Need-loop-again Inv-loop μ-loop
+loop-again c = filled-more _ _ _ _ _ (c .before .before .loop .inv) (omega arith) (c .add2 .ensures)
 
-add2-requires-3 : tie.Need-add2-requires-3
-add2-requires-3 c κs = search needs
-
-array-read-add2-7 : tie.Need-array-read-add2-7
-array-read-add2-7 c = search needs
-
-array-read-add2-8 : tie.Need-array-read-add2-8
-array-read-add2-8 c = search needs
-
-add2-requires-4 : tie.Need-add2-requires-4
-add2-requires-4 c κs = search needs
-
-array-read-add2-9 : tie.Need-array-read-add2-9
-array-read-add2-9 c = search needs
-
-array-read-add2-10 : tie.Need-array-read-add2-10
-array-read-add2-10 c = search needs
-
-add2-requires-5 : tie.Need-add2-requires-5
-add2-requires-5 c κs = search needs
-
-array-read-add2-11 : tie.Need-array-read-add2-11
-array-read-add2-11 c = search needs
-
-array-read-add2-12 : tie.Need-array-read-add2-12
-array-read-add2-12 c = search needs
-
-add2-requires-6 : tie.Need-add2-requires-6
-add2-requires-6 c κs = search needs
-
-array-read-add2-13 : tie.Need-array-read-add2-13
-array-read-add2-13 c = search needs
-
-array-read-add2-14 : tie.Need-array-read-add2-14
-array-read-add2-14 c = search needs
-
-add2-requires-7 : tie.Need-add2-requires-7
-add2-requires-7 c κs = search needs
-
-array-read-add2-15 : tie.Need-array-read-add2-15
-array-read-add2-15 c = search needs
-
-array-read-add2-16 : tie.Need-array-read-add2-16
-array-read-add2-16 c = search needs
-
-add2-requires-8 : tie.Need-add2-requires-8
-add2-requires-8 c κs = search needs
-
-returns : tie.Need-returns
-unfolding sums tabulate
-returns c = λ i. c .before .before .before .before .before .before .before .add2 .ensures i ∷ c .before .before .before .before .before .before .add22 .ensures i ∷ c .before .before .before .before .before .add23 .ensures i ∷ c .before .before .before .before .add24 .ensures i ∷ c .before .before .before .add25 .ensures i ∷ c .before .before .add26 .ensures i ∷ c .before .add27 .ensures i ∷ c .add28 .ensures i ∷ []
+returns : tie.Need-returns Inv-loop μ-loop
+unfolding sums
+returns c = filled-all _ _ _ (c .before .loop .i) (c .before .loop .inv) (omega arith)
 
 pub sums-spec : {M : Type 1} → statement M
 sums-spec =
     tie.close
     (tie.spec
+    Inv-loop
+    μ-loop
+    loop-holds
+    mul-add2
     array-read-add2
+    mul-add2-2
     array-read-add2-2
     add2-requires
-    array-read-add2-3
-    array-read-add2-4
-    add2-requires-2
-    array-read-add2-5
-    array-read-add2-6
-    add2-requires-3
-    array-read-add2-7
-    array-read-add2-8
-    add2-requires-4
-    array-read-add2-9
-    array-read-add2-10
-    add2-requires-5
-    array-read-add2-11
-    array-read-add2-12
-    add2-requires-6
-    array-read-add2-13
-    array-read-add2-14
-    add2-requires-7
-    array-read-add2-15
-    array-read-add2-16
-    add2-requires-8
+    mul-s
+    array-write-s
+    add-i
+    loop-less
+    loop-again
     returns)

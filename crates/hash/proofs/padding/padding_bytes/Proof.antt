@@ -40,7 +40,7 @@ returns c =
     let b = c .before .before .before .before .before .be64 in
     let e : c .before .before .before .padding-length .result - 8 ≡ 1 + zeroBytes (a .len) = omega (arith, c .before .before .before .padding-length .ensures) in
     ap (take (9 + zeroBytes (a .len))) (c .before .put .ensures ∙ ap (λ (at : ℕ). overlay (0x80 ∷ replicate 71 0) at (b .result)) e)
-    ∙ padding-written (a .len) (b .result) (b .ensures) (search needs)
+    ∙ padding-written (a .len) 71 (b .result) (b .ensures) (search needs) (omega arith)
 
 pub padding-bytes-spec : {M : Type 1} → statement M
 padding-bytes-spec =
