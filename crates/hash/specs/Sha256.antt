@@ -9,11 +9,12 @@ use lib.Bits.{bitAnd, bitOr, bitXor}
 use Rattle.base.specs.Bytes.{bigEndian, tabulate}
 
 infixl 60 _⊞_
--- 3.2, 1: the sum of two words, modulo 2 ^ 32
+-- 3.2, 2: the sum of two words, modulo 2 ^ 32
 unfoldable pub _⊞_ : ℕ → ℕ → ℕ
 x ⊞ y = (x + y) % 2 ^ 32
 
--- 3.2, 2 to 4: the shift and the rotation to the right by n bits; and 2.2.2: the complement of a word
+-- 3.2, 3 and 4: the shift and the rotation to the right by n bits; 2.2.2: the shift to the left, which drops the bits that leave the word, and the
+-- complement of a word
 unfoldable pub SHR : ℕ → ℕ → ℕ
 SHR n x = x / 2 ^ n
 

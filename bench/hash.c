@@ -1,0 +1,94 @@
+/* How fast the proved SHA-256 is, beside a plain C one and OpenSSL's, in one run: see bench/hash.sh. */
+#include <stdio.h>
+#include <stdlib.h>
+#include <string.h>
+#include <time.h>
+
+#ifdef WITH_OPENSSL
+#include <openssl/crypto.h>
+#include <openssl/sha.h>
+#endif
+
+#include "sha256_plain.h"
+
+void bench_hash_sha256(const uint8_t *bytes, size_t len, uint8_t out[32]);
+
+enum { ROUNDS = 40, LARGEST = 65536 };
+
+typedef void hash_fn(const uint8_t *, size_t, uint8_t *);
+
+#ifdef WITH_OPENSSL
+static void openssl(const uint8_t *bytes, size_t len, uint8_t *out) { SHA256(bytes, len, out); }
+#endif
+
+static struct contestant {
+    const char *name;
+    hash_fn *hash;
+    double best;
+} contestants[] = {
+    {"plain C, gcc -O2", sha256_plain, 0},
+    {"this library", bench_hash_sha256, 0},
+#ifdef WITH_OPENSSL
+    {"OpenSSL", openssl, 0},
+#endif
+};
+enum { CONTESTANTS = sizeof contestants / sizeof contestants[0] };
+
+static double cpu_seconds(void)
+{
+    struct timespec t;
+    clock_gettime(CLOCK_THREAD_CPUTIME_ID, &t);
+    return t.tv_sec + t.tv_nsec * 1e-9;
+}
+
+static uint8_t message[LARGEST];
+
+/* Every contestant gives the plain one's digest, at each length up to 300 and at the largest. */
+static void compare(void)
+{
+    for (size_t len = 0; len <= LARGEST; len = len < 300 ? len + 1 : len == 300 ? LARGEST : LARGEST + 1) {
+        uint8_t want[32], got[32];
+        sha256_plain(message, len, want);
+        for (int i = 1; i < CONTESTANTS; i++) {
+            contestants[i].hash(message, len, got);
+            if (memcmp(want, got, 32) != 0) {
+                fprintf(stderr, "%s: another digest at length %zu\n", contestants[i].name, len);
+                exit(1);
+            }
+        }
+    }
+}
+
+static void measure(size_t len)
+{
+    size_t calls = 4 * 1024 * 1024 / len;
+    for (int i = 0; i < CONTESTANTS; i++)
+        contestants[i].best = 1e9;
+    for (int round = 0; round < ROUNDS; round++) {
+        for (int i = 0; i < CONTESTANTS; i++) {
+            uint8_t out[32];
+            double began = cpu_seconds();
+            for (size_t k = 0; k < calls; k++) {
+                contestants[i].hash(message, len, out);
+                message[0] ^= out[0];
+            }
+            double took = (cpu_seconds() - began) / calls;
+            if (took < contestants[i].best)
+                contestants[i].best = took;
+        }
+    }
+    for (int i = 0; i < CONTESTANTS; i++)
+        printf("%6zu bytes  %-18s %8.1f MB/s  speed over plain C %.2f\n", len, contestants[i].name,
+               len / contestants[i].best / 1e6, contestants[0].best / contestants[i].best);
+}
+
+int main(void)
+{
+    for (size_t i = 0; i < LARGEST; i++)
+        message[i] = (uint8_t)(i * 131 + 7);
+    compare();
+    measure(64);
+    measure(300);
+    measure(LARGEST);
+    return 0;
+}
