@@ -1,8 +1,8 @@
 -- Laws of specs/Bytes.antt and of lists of equal bytes. Assumes nothing.
-use Prim.Native.Nat.{ℕ, zero, suc, _+_, _≤_}
+use Prim.Native.Nat.{ℕ, zero, suc, _+_, _-_, _≤_}
 use mathlib.Core.Path.{_≡_, refl, sym, ap, _∙_}
 use mathlib.Core.List.{List, _∷_, _++_, append-nil}
-use native.Mathlib.Nat.{le-refl, not-suc-le-zero}
+use native.Mathlib.Nat.{le-refl, not-suc-le-zero, zero-add}
 use native.Mathlib.Omega.{arith}
 use lib.ListN.{length, take, drop, replicate, drop-of-length-le}
 use lib.Seq.{take-length, paste, length-paste, take-paste}
@@ -31,3 +31,14 @@ pub overlay-to-end : (to : List ℕ) (at : ℕ) (from : List ℕ) → at + lengt
 unfolding overlay
 overlay-to-end to at from e =
     ap (λ (l : List ℕ). take at to ++ from ++ l) (drop-of-length-le to {i = at + length from} (omega arith)) ∙ append-nil (take at to ++ from)
+
+pub drop-replicate : (n k a : ℕ) → drop n (replicate k a) ≡ replicate (k - n) a
+drop-replicate zero k a = let e : k ≡ k - 0 = omega arith in ap (λ (x : ℕ). replicate x a) e
+drop-replicate (suc n) zero a = let e : 0 ≡ 0 - suc n = omega arith in ap (λ (x : ℕ). replicate x a) e
+drop-replicate (suc n) (suc k) a = let e : k - n ≡ suc k - suc n = omega arith in drop-replicate n k a ∙ ap (λ (x : ℕ). replicate x a) e
+
+-- what is written over zeros, from the first on
+pub overlay-zeros : (k : ℕ) (from : List ℕ) → overlay (replicate k 0) 0 from ≡ from ++ replicate (k - length from) 0
+unfolding overlay
+overlay-zeros k from =
+    ap (λ (l : List ℕ). from ++ l) (ap (λ (n : ℕ). drop n (replicate k 0)) (zero-add (length from)) ∙ drop-replicate (length from) k 0)

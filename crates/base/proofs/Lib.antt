@@ -1,3 +1,5 @@
 pub mod Bytes
 pub mod Fill
+pub mod Lists
+pub mod Tests
 pub mod Theorems

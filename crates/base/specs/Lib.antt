@@ -1,3 +1,4 @@
+pub mod Logic
 pub mod Refusal
 pub mod Answer
 pub mod Dhcid

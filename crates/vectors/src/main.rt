@@ -5,38 +5,20 @@
 use hash::Sha256;
 use hash::digest_of;
 use libc::STDOUT_FILENO;
-ghost use Prim.Native.Nat.{_<_, _≤_};
+ghost use Prim.Native.Nat.{_≤_};
 
-fn hex_digit(n: u8) -> u8
-    requires { ⌜ n < 16 ⌝ }
-{
-    if n < 10 { n + 48 } else { n + 87 }
-}
-
-fn high_digit(b: u8) -> u8 {
-    hex_digit(b / 16)
-}
-
-fn low_digit(b: u8) -> u8 {
-    hex_digit(b % 16)
-}
-
-// The digest in hexadecimal, and a line's end.
-fn hex_line(digest: [u8; 32]) -> [u8; 65] {
-    let mut line = [10u8; 65];
-    let mut i: usize = 0;
-    while i < 32 {
-        line[2 * i] = high_digit(digest[i]);
-        line[2 * i + 1] = low_digit(digest[i]);
-        i += 1;
-    }
-    line
+fn wide(b: u8) -> u64 {
+    b as u64
 }
 
 fn show(label: &[u8], digest: [u8; 32]) {
     io::write_all(STDOUT_FILENO, label);
-    let line = hex_line(digest);
-    io::write_all(STDOUT_FILENO, &line);
+    let mut i: usize = 0;
+    while i < 32 {
+        io::print_hex(STDOUT_FILENO, wide(digest[i]), 2);
+        i += 1;
+    }
+    io::write_all(STDOUT_FILENO, b"\n");
 }
 
 // A million times the letter a: pieces of 1, 2, 3 and so on up to 1,413 bytes, and the 1,009 that are left.

@@ -1,0 +1,19 @@
+-- Notions that every definition above may use. Nothing here is about bytes.
+use mathlib.Core.Bool.{Bool, true, false}
+use mathlib.Core.Path.{_≡_}
+use mathlib.Core.List.{List, [], _∷_}
+
+-- each element of a list has the property P
+pub data Every {A : Type 0} (P : A → Type 0) : List A → Type 0 where
+  none : Every P []
+  more : {a : A} {l : List A} → P a → Every P l → Every P (a ∷ l)
+
+-- two lists are as long as each other, and R holds of their elements one by one
+pub data Pairwise {A : Type 0} (R : A → A → Type 0) : List A → List A → Type 0 where
+  none : Pairwise R [] []
+  more : {a b : A} {l m : List A} → R a b → Pairwise R l m → Pairwise R (a ∷ l) (b ∷ m)
+
+-- an answer b, true or false, decides the statement P
+pub record Decides (b : Bool) (P : Type 0) : Type 0 where
+  pub if-true : b ≡ true → P
+  pub if-false : b ≡ false → P → ⊥

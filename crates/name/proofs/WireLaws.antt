@@ -1,0 +1,180 @@
+-- A test of wire bytes, byte by byte, and that it decides "proper". Assumes nothing.
+use Prim.Native.Nat.{ℕ, zero, suc, _+_, _-_, _≤_, _<_}
+use mathlib.Core.Bool.{Bool, true, false, cond, _&&_, true≢false, false≢true}
+use mathlib.Core.Path.{_≡_, refl, sym, ap, ap₂, _∙_}
+use mathlib.Core.List.{List, [], _∷_, _++_}
+use native.Mathlib.Numerals.{add-one}
+use native.Mathlib.Omega.{arith}
+use lib.Dec.{leb, eqb}
+use lib.ListN.{length, getD, drop, length-drop, drop-of-length-le}
+use lib.Seq.{drop-cons}
+use borrow.Author.Tests.{eq-eqb, ne-eqb, le-leb, lt-leb, eqb-true, eqb-false, leb-true}
+use Rattle.base.specs.Logic.{Every, Decides}
+use Rattle.base.proofs.Tests.{and-left, and-right}
+use Rattle.name.specs.Label.{Label, isLabelByte}
+use Rattle.name.specs.Name.{wire, Name, Proper}
+
+-- the list is empty
+abbrev pub isNil : List ℕ → Bool
+isNil [] = true
+isNil (b ∷ n) = false
+
+-- n is what is left of a name whose label has k bytes to come: these, then labels with their lengths, then a zero byte, and nothing after it
+unfoldable pub accepts : ℕ → List ℕ → Bool
+accepts k [] = false
+accepts zero (b ∷ n) = cond (eqb b 0) (isNil n) (leb b 63 && accepts b n)
+accepts (suc k) (b ∷ n) = isLabelByte b && accepts k n
+
+-- ---- what is a name is accepted
+
+accepts-label : (l n : List ℕ) → Every (λ b. isLabelByte b ≡ true) l → accepts (length l) (l ++ n) ≡ accepts 0 n
+unfolding accepts
+accepts-label [] n h = refl
+accepts-label (b ∷ l) n (Every.more hb h) = ap (λ (t : Bool). t && accepts (length l) (l ++ n)) hb ∙ accepts-label l n h
+
+accepts-wire : (ls : List (List ℕ)) → Every Label ls → accepts 0 (wire ls) ≡ true
+unfolding accepts wire
+accepts-wire [] h = refl
+accepts-wire (l ∷ ls) (Every.more hl h) =
+    let some : eqb (length l) 0 ≡ false = ne-eqb (length l) 0 (λ z. omega (arith, hl .some)) in
+    let rest : accepts (length l) (l ++ wire ls) ≡ true = accepts-label l (wire ls) (hl .bytes) ∙ accepts-wire ls h in
+    λ i. cond (some i) (isNil (l ++ wire ls)) (le-leb (length l) 63 (hl .short) i && rest i)
+
+-- ---- what is accepted is a name
+
+record Rest (k : ℕ) (n : List ℕ) : Type 0 where
+  label : List ℕ
+  labels : List (List ℕ)
+  long : length label ≡ k
+  bytes : Every (λ b. isLabelByte b ≡ true) label
+  are : Every Label labels
+  form : n ≡ label ++ wire labels
+
+at-length : (b : ℕ) (n : List ℕ) → Rest b n → (b ≡ 0 → ⊥) → b ≤ 63 → Rest 0 (b ∷ n)
+unfolding wire
+at-length b n r some short =
+    let first : Label (r .label) = record { some = omega (arith, r .long, some); short = omega (arith, r .long); bytes = r .bytes } in
+    record {
+      label = [];
+      labels = r .label ∷ r .labels;
+      long = refl;
+      bytes = Every.none;
+      are = Every.more first (r .are);
+      form = ap₂ _∷_ (sym (r .long)) (r .form);
+    }
+
+at-end : (b : ℕ) (n : List ℕ) → b ≡ 0 → isNil n ≡ true → Rest 0 (b ∷ n)
+unfolding wire
+at-end b [] z e = record { label = []; labels = []; long = refl; bytes = Every.none; are = Every.none; form = ap (λ (x : ℕ). x ∷ []) z }
+at-end b (c ∷ n) z e = absurd (false≢true e)
+
+accepted-length : (b : ℕ) (n : List ℕ) → (accepts b n ≡ true → Rest b n) → (t : Bool) → eqb b 0 ≡ t → cond t (isNil n) (leb b 63 && accepts b n) ≡ true → Rest 0 (b ∷ n)
+accepted-length b n ih true z e = at-end b n (eqb-true b 0 z) e
+accepted-length b n ih false z e =
+    at-length b n (ih (and-right (leb b 63) (accepts b n) e)) (eqb-false b 0 z) (leb-true b 63 (and-left (leb b 63) (accepts b n) e))
+
+accepted-byte : (k b : ℕ) (n : List ℕ) → ((j : ℕ) → accepts j n ≡ true → Rest j n) → accepts k (b ∷ n) ≡ true → Rest k (b ∷ n)
+unfolding accepts
+accepted-byte zero b n ih e = accepted-length b n (ih b) (eqb b 0) refl e
+accepted-byte (suc k) b n ih e =
+    let r = ih k (and-right (isLabelByte b) (accepts k n) e) in
+    record {
+      label = b ∷ r .label;
+      labels = r .labels;
+      long = ap suc (r .long);
+      bytes = Every.more (and-left (isLabelByte b) (accepts k n) e) (r .bytes);
+      are = r .are;
+      form = ap (λ (t : List ℕ). b ∷ t) (r .form);
+    }
+
+accepted : (n : List ℕ) (k : ℕ) → accepts k n ≡ true → Rest k n
+accepted [] k e = absurd (false≢true (unfold accepts in e))
+accepted (b ∷ n) k e = accepted-byte k b n (λ j. accepted n j) e
+
+-- ---- so the test decides, of at most 255 bytes that do not begin with the zero byte
+
+no-bytes : (l : List ℕ) → length l ≡ 0 → l ≡ []
+no-bytes [] e = refl
+no-bytes (b ∷ l) e = absurd (omega arith)
+
+some-labels : (ls : List (List ℕ)) (n : List ℕ) → n ≡ wire ls → (getD n 0 0 ≡ 0 → ⊥) → 1 ≤ length ls
+unfolding wire
+some-labels [] n e first = absurd (first (ap (λ (t : List ℕ). getD t 0 0) e))
+some-labels (l ∷ ls) n e first = omega arith
+
+first-length : (ls : List (List ℕ)) → 1 ≤ length ls → Every Label ls → getD (wire ls) 0 0 ≡ 0 → ⊥
+unfolding wire
+first-length [] some h e = omega arith
+first-length (l ∷ ls) some (Every.more hl h) e = omega (arith, hl .some)
+
+pub proper-first : (n : List ℕ) → Proper n → getD n 0 0 ≡ 0 → ⊥
+proper-first n p e = first-length (p .labels) (p .name .some) (p .name .labels) (ap (λ (t : List ℕ). getD t 0 0) (sym (p .form)) ∙ e)
+
+pub proper-short : (n : List ℕ) → Proper n → length n ≤ 255
+proper-short n p = omega (arith, ap length (p .form), p .name .short)
+
+pub proper-some : (n : List ℕ) → Proper n → 1 ≤ length n
+proper-some [] p = absurd (proper-first [] p refl)
+proper-some (b ∷ n) p = omega arith
+
+pub accepts-proper : (n : List ℕ) → Proper n → accepts 0 n ≡ true
+accepts-proper n p = ap (accepts 0) (p .form) ∙ accepts-wire (p .labels) (p .name .labels)
+
+pub decided : (n : List ℕ) (b : Bool) → b ≡ accepts 0 n → (getD n 0 0 ≡ 0 → ⊥) → length n ≤ 255 → Decides b (Proper n)
+decided n b e first short =
+    record {
+      if-true =
+          λ t.
+          let r = accepted n 0 (sym e ∙ t) in
+          let form : n ≡ wire (r .labels) = r .form ∙ ap (λ (l : List ℕ). l ++ wire (r .labels)) (no-bytes (r .label) (r .long)) in
+          record {
+            labels = r .labels;
+            name = record { some = some-labels (r .labels) n form first; labels = r .are; short = omega (arith, ap length form) };
+            form = form;
+          };
+      if-false = λ f p. true≢false (sym (accepts-proper n p) ∙ sym e ∙ f);
+    }
+
+-- ---- the test at index i of n
+
+at-last : (r : List ℕ) (i n : ℕ) → i + length r ≡ n → eqb i n ≡ isNil r
+at-last [] i n e = eq-eqb i n (omega arith)
+at-last (b ∷ r) i n e = ne-eqb i n (λ z. omega arith)
+
+module _ (n : List ℕ) (i : ℕ) (within : i < length n) where
+  ahead : (k : ℕ) → accepts k (drop i n) ≡ accepts k (getD n i 0 ∷ drop (i + 1) n)
+  ahead k = ap (accepts k) (rw (add-one, drop-cons n i 0))
+
+  pub at-zero : getD n i 0 ≡ 0 → eqb (i + 1) (length n) ≡ accepts 0 (drop i n)
+  unfolding accepts
+  at-zero z =
+      let rest : i + 1 + length (drop (i + 1) n) ≡ length n = simp length-drop (omega arith) in
+      let first : cond (eqb (getD n i 0) 0) (isNil (drop (i + 1) n)) (leb (getD n i 0) 63 && accepts (getD n i 0) (drop (i + 1) n)) ≡ isNil (drop (i + 1) n) =
+      ap (λ (t : Bool). cond t (isNil (drop (i + 1) n)) (leb (getD n i 0) 63 && accepts (getD n i 0) (drop (i + 1) n))) (eq-eqb (getD n i 0) 0 z) in
+      at-last (drop (i + 1) n) (i + 1) (length n) rest ∙ sym first ∙ sym (ahead 0)
+
+  pub at-long-label : 63 < getD n i 0 → false ≡ accepts 0 (drop i n)
+  unfolding accepts
+  at-long-label long =
+      sym (ahead 0 ∙ (λ j. cond (ne-eqb (getD n i 0) 0 (λ z. omega arith) j) (isNil (drop (i + 1) n)) (lt-leb (getD n i 0) 63 long j && accepts (getD n i 0) (drop (i + 1) n))))
+
+  pub at-label : (getD n i 0 ≡ 0 → ⊥) → getD n i 0 ≤ 63 → accepts 0 (drop i n) ≡ accepts (getD n i 0) (drop (i + 1) n)
+  unfolding accepts
+  at-label some short =
+      ahead 0 ∙ (λ j. cond (ne-eqb (getD n i 0) 0 some j) (isNil (drop (i + 1) n)) (le-leb (getD n i 0) 63 short j && accepts (getD n i 0) (drop (i + 1) n)))
+
+  module _ (k : ℕ) (more : k ≡ 0 → ⊥) where
+    one-less : k ≡ suc (k - 1)
+    one-less = omega arith
+
+    pub at-byte : isLabelByte (getD n i 0) ≡ true → accepts k (drop i n) ≡ accepts (k - 1) (drop (i + 1) n)
+    unfolding accepts
+    at-byte e = ahead k ∙ ap (λ (j : ℕ). accepts j (getD n i 0 ∷ drop (i + 1) n)) one-less ∙ ap (λ (t : Bool). t && accepts (k - 1) (drop (i + 1) n)) e
+
+    pub at-other-byte : isLabelByte (getD n i 0) ≡ false → false ≡ accepts k (drop i n)
+    unfolding accepts
+    at-other-byte e = sym (ahead k ∙ ap (λ (j : ℕ). accepts j (getD n i 0 ∷ drop (i + 1) n)) one-less ∙ ap (λ (t : Bool). t && accepts (k - 1) (drop (i + 1) n)) e)
+
+pub at-end-of-bytes : (n : List ℕ) (k i : ℕ) → length n ≤ i → false ≡ accepts k (drop i n)
+unfolding accepts
+at-end-of-bytes n k i past = ap (accepts k) (sym (drop-of-length-le n {i = i} past))

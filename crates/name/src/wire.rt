@@ -1,0 +1,91 @@
+// Names in wire form.
+use crate::byte::is_label_byte;
+use crate::byte::lower;
+ghost use mathlib.Core.Path.{_≡_};
+ghost use Prim.Native.Nat.{_+_, _≤_};
+ghost use lib.ListN.{length};
+ghost use Rattle.base.specs.Bytes.{overlay};
+ghost use Rattle.base.specs.Logic.{Decides};
+ghost use Rattle.name.specs.Name as spec;
+
+// The longest name, in bytes.
+pub const LONGEST: usize = 255;
+
+// The longest label, in bytes.
+const LONGEST_LABEL: u8 = 63;
+
+// Is this a proper name and nothing after it? Each byte is looked at once.
+pub fn is_proper(name: &[u8]) -> bool
+    ensures { λ r. ⌜ Decides r (spec.Proper (now (name .entry))) ⌝ }
+{
+    if LONGEST < name.len() {
+        return false;
+    }
+    if name.len() == 0 {
+        return false;
+    }
+    if name[0] == 0 {
+        return false;
+    }
+    // how many bytes of the label are to come; 0 where a length stands next
+    let mut left: u8 = 0;
+    let mut i: usize = 0;
+    while i < name.len() {
+        let b = name[i];
+        if left == 0 {
+            if b == 0 {
+                return i + 1 == name.len();
+            }
+            if LONGEST_LABEL < b {
+                return false;
+            }
+            left = b;
+        } else {
+            if !is_label_byte(b) {
+                return false;
+            }
+            left -= 1;
+        }
+        i += 1;
+    }
+    false
+}
+
+// Writes the canonical form of a name into `to`, from index `at` on.
+pub fn put_canonical(to: &mut [u8], at: usize, name: &[u8])
+    requires { ⌜ at + length (now name) ≤ length (now to) ⌝ }
+    ensures { λ _. ⌜ now (to .exit) ≡ overlay (now (to .entry)) at (spec.canonical (now (name .entry))) ⌝ }
+{
+    let mut i: usize = 0;
+    while i < name.len() {
+        to[at + i] = lower(name[i]);
+        i += 1;
+    }
+}
+
+// The canonical form of a name in a fixed array, zeros after it.
+pub fn canonical(name: &[u8]) -> [u8; 255]
+    requires { ⌜ length (now name) ≤ 255 ⌝ }
+    ensures { λ r. ⌜ r ≡ spec.padded (spec.canonical (now (name .entry))) ⌝ }
+{
+    let mut bytes = [0u8; LONGEST];
+    put_canonical(&mut bytes, 0, name);
+    bytes
+}
+
+// Is `held`, which is in canonical form, the same name as `name`, which may be in any case?
+pub fn matches(name: &[u8], held: &[u8]) -> bool
+    ensures { λ r. ⌜ Decides r (spec.canonical (now (name .entry)) ≡ now (held .entry)) ⌝ }
+{
+    if name.len() != held.len() {
+        return false;
+    }
+    let mut i: usize = 0;
+    while i < name.len() {
+        if lower(name[i]) != held[i] {
+            return false;
+        }
+        i += 1;
+    }
+    true
+}
