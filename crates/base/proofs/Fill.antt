@@ -1,11 +1,13 @@
 -- Loops that fill a list from the front, and that write one list into another. Assumes nothing.
-use Prim.Native.Nat.{ℕ, _+_, _≤_, _<_}
+use Prim.Native.Nat.{ℕ, zero, suc, _+_, _≤_, _<_}
 use mathlib.Core.Path.{_≡_, refl, sym, ap, ap₂, _∙_}
 use mathlib.Core.List.{List, [], _∷_, _++_}
+use mathlib.Core.Logic.{⊎-elim}
+use native.Mathlib.Nat.{eq-or-lt-of-le}
 use native.Mathlib.Omega.{arith}
 use native.Mathlib.Numerals.{add-one}
-use lib.ListN.{length, getD, take, set, length-set}
-use lib.Seq.{take-suc-set, take-all, paste, paste-zero, paste-suc}
+use lib.ListN.{length, getD, take, set, length-set, length-append, List·getD-append}
+use lib.Seq.{take-suc-set, take-all, getD-at, paste, paste-zero, paste-suc}
 use Rattle.base.specs.Bytes.{overlay, tabulate}
 use Rattle.base.proofs.Bytes.{paste-all}
 
@@ -34,6 +36,21 @@ pub filled-all : (f : ℕ → ℕ) (n : ℕ) (d : List ℕ) (i : ℕ) → Filled
 filled-all f n d i h le =
     let e : i ≡ n = omega arith in
     sym (take-all i d (omega arith)) ∙ h .done ∙ ap (tabulate f) e
+
+pub length-tabulate : (f : ℕ → ℕ) (n : ℕ) → length (tabulate f n) ≡ n
+unfolding tabulate
+length-tabulate f zero = refl
+length-tabulate f (suc n) = length-append (tabulate f n) (f n ∷ []) ∙ ap (λ (k : ℕ). k + 1) (length-tabulate f n) ∙ add-one n
+
+pub getD-tabulate : (f : ℕ → ℕ) (n i : ℕ) → i < n → getD (tabulate f n) i 0 ≡ f i
+unfolding tabulate
+getD-tabulate f zero i lt = absurd (omega arith)
+getD-tabulate f (suc n) i lt =
+    let below-suc : i ≤ n = omega arith in
+    ⊎-elim
+    (λ e. ap (λ (k : ℕ). getD (tabulate f n ++ (f n ∷ [])) k 0) e ∙ getD-at (tabulate f n) (f n) [] 0 n (length-tabulate f n) ∙ ap f (sym e))
+    (λ below. List·getD-append (tabulate f n) (f n ∷ []) 0 i (omega (arith, length-tabulate f n)) ∙ getD-tabulate f n i below)
+    (eq-or-lt-of-le below-suc)
 
 -- ---- a loop that writes the list `from` into `to`, from index `at` on, one element a turn
 

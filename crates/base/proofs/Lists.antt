@@ -1,10 +1,11 @@
 -- Laws on lists and on the notions of specs/Logic.antt. Assumes nothing.
-use Prim.Native.Nat.{ℕ, _+_, _<_}
+use Prim.Native.Nat.{ℕ, zero, suc, _+_, _<_}
 use mathlib.Core.Bool.{Bool, true, false, true≢false}
 use mathlib.Core.Path.{_≡_, refl, sym, ap, ap₂, _∙_}
 use mathlib.Core.List.{List, [], _∷_, _++_, map, nil≢cons, cons≢nil, head-eq-of-cons-eq, tail-eq-of-cons-eq}
 use native.Mathlib.Nat.{add-zero}
 use native.Mathlib.Numerals.{add-one}
+use native.Mathlib.Omega.{arith}
 use lib.ListN.{length, getD, take, drop}
 use lib.Seq.{take-at, drop-at, take-suc, drop-drop, getD-drop}
 use Rattle.base.specs.Logic.{Every, Pairwise}
@@ -46,6 +47,36 @@ take-more l m i e same hl hm =
     rw add-one (take-suc l i 0 hl ∙ ap₂ (λ (t : List ℕ) (x : ℕ). t ++ (x ∷ [])) e same ∙ sym (take-suc m i 0 hm))
 
 -- ---- each element
+
+module _ {A : Type 0} {P : A → Type 0} where
+  pub every-append : (l m : List A) → Every P l → Every P m → Every P (l ++ m)
+  every-append [] m hl hm = hm
+  every-append (a ∷ l) m (Every.more h hl) hm = Every.more h (every-append l m hl hm)
+
+  -- the element between two parts
+  pub every-middle : (l m : List A) (a : A) → Every P (l ++ a ∷ m) → P a
+  every-middle [] m a (Every.more h hl) = h
+  every-middle (b ∷ l) m a (Every.more h hl) = every-middle l m a hl
+
+pub pairwise-on : {A B : Type 0} {R : A → B → Type 0} (l : List A) (m : List B) (a : A) (b : B) → Pairwise R l m → R a b → Pairwise R (l ++ a ∷ []) (m ++ b ∷ [])
+pairwise-on [] [] a b Pairwise.none r = Pairwise.more r Pairwise.none
+pairwise-on (x ∷ l) (y ∷ m) a b (Pairwise.more h hs) r = Pairwise.more h (pairwise-on l m a b hs r)
+
+-- what stands at an index has what each element has
+pub every-at : {P : ℕ → Type 0} (l : List ℕ) → Every P l → (i : ℕ) → i < length l → P (getD l i 0)
+every-at [] h i lt = absurd (omega arith)
+every-at (a ∷ l) (Every.more p h) zero lt = p
+every-at (a ∷ l) (Every.more p h) (suc i) lt = every-at l h i (omega arith)
+
+-- one relation for another, of each two
+pub pairwise-by : {A B : Type 0} {R S : A → B → Type 0} → ((a : A) (b : B) → R a b → S a b) → {l : List A} {m : List B} → Pairwise R l m → Pairwise S l m
+pairwise-by g Pairwise.none = Pairwise.none
+pairwise-by g (Pairwise.more {a} {b} h hs) = Pairwise.more (g a b h) (pairwise-by g hs)
+
+-- what holds of each two says of the second
+pub pairwise-second : {A B : Type 0} {R : A → B → Type 0} {P : B → Type 0} → ((a : A) (b : B) → R a b → P b) → {l : List A} {m : List B} → Pairwise R l m → Every P m
+pairwise-second g Pairwise.none = Every.none
+pairwise-second g (Pairwise.more {a} {b} h hs) = Every.more (g a b h) (pairwise-second g hs)
 
 module _ {A B : Type 0} (f : A → B) where
   pub map-append : (l m : List A) → map f (l ++ m) ≡ map f l ++ map f m

@@ -1,6 +1,9 @@
 -- Laws on tests, true or false. Assumes nothing.
-use mathlib.Core.Bool.{Bool, true, false, _&&_, true≢false, false≢true}
-use mathlib.Core.Path.{_≡_, refl}
+use Prim.Native.Nat.{ℕ, _≤_, _<_}
+use mathlib.Core.Bool.{Bool, true, false, _&&_, and-false, true≢false, false≢true}
+use mathlib.Core.Path.{_≡_, refl, ap, _∙_}
+use lib.Dec.{leb}
+use borrow.Author.Tests.{le-leb, lt-leb}
 use Rattle.base.specs.Logic.{Decides}
 
 pub and-left : (a b : Bool) → (a && b) ≡ true → a ≡ true
@@ -11,6 +14,20 @@ pub and-right : (a b : Bool) → (a && b) ≡ true → b ≡ true
 and-right true b e = e
 and-right false true e = refl
 and-right false false e = e
+
+-- ---- a number in a range
+
+module _ (low b high : ℕ) where
+  pub within : low ≤ b → b ≤ high → (leb low b && leb b high) ≡ true
+  within above below = λ i. le-leb low b above i && le-leb b high below i
+
+  pub under : b < low → (leb low b && leb b high) ≡ false
+  under below = ap (λ (t : Bool). t && leb b high) (lt-leb low b below)
+
+  pub over : high < b → (leb low b && leb b high) ≡ false
+  over above = ap (λ (t : Bool). leb low b && t) (lt-leb b high above) ∙ and-false (leb low b)
+
+-- ---- deciding
 
 -- an answer that is known decides a statement that is known to hold, or not to
 pub yes-by : {P : Type 0} → P → Decides true P

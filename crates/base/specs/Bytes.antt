@@ -12,6 +12,11 @@ unfoldable pub bigEndian : ℕ → ℕ → List ℕ
 bigEndian zero x = []
 bigEndian (suc n) x = (x / 2 ^ (8 * n) % 2 ^ 8) ∷ bigEndian n x
 
+-- numbers in n bytes each, one after the other
+unfoldable pub inBytes : ℕ → List ℕ → List ℕ
+inBytes n [] = []
+inBytes n (x ∷ xs) = bigEndian n x ++ inBytes n xs
+
 -- f 0, f 1, and so on, n of them
 unfoldable pub tabulate : (ℕ → ℕ) → ℕ → List ℕ
 tabulate f zero = []

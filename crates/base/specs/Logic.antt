@@ -9,9 +9,9 @@ pub data Every {A : Type 0} (P : A → Type 0) : List A → Type 0 where
   more : {a : A} {l : List A} → P a → Every P l → Every P (a ∷ l)
 
 -- two lists are as long as each other, and R holds of their elements one by one
-pub data Pairwise {A : Type 0} (R : A → A → Type 0) : List A → List A → Type 0 where
+pub data Pairwise {A B : Type 0} (R : A → B → Type 0) : List A → List B → Type 0 where
   none : Pairwise R [] []
-  more : {a b : A} {l m : List A} → R a b → Pairwise R l m → Pairwise R (a ∷ l) (b ∷ m)
+  more : {a : A} {b : B} {l : List A} {m : List B} → R a b → Pairwise R l m → Pairwise R (a ∷ l) (b ∷ m)
 
 -- an answer b, true or false, decides the statement P
 pub record Decides (b : Bool) (P : Type 0) : Type 0 where

@@ -1,4 +1,4 @@
 pub mod BlockLaws
 pub mod StateLaws
-pub mod EndLaws
+pub mod PaddingLaws
 pub mod Theorems

@@ -8,7 +8,7 @@ use Rattle.hash.specs.Sha256.{H₀, hashValue, ZeroBits, zeroBytes, padd
 use Rattle.hash.specs.State.{waiting, blocks, remainder, Begins, Takes, StateOf}
 use Rattle.hash.specs.declared.Sha256.{Sha256}
 use Rattle.hash.proofs.StateLaws.{value-on, remainder-on}
-use Rattle.hash.proofs.EndLaws.{padding-modulo}
+use Rattle.hash.proofs.PaddingLaws.{padding-modulo}
 
 -- `begin` is the state of the empty message
 pub begun : (s : Sha256) → Begins s → StateOf [] s

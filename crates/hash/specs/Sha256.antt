@@ -6,7 +6,7 @@ use mathlib.Core.Path.{_≡_}
 use mathlib.Core.List.{List, [], _∷_, _++_}
 use lib.ListN.{length, getD, take, drop, replicate}
 use lib.Bits.{bitAnd, bitOr, bitXor}
-use Rattle.base.specs.Bytes.{bigEndian, tabulate}
+use Rattle.base.specs.Bytes.{bigEndian, inBytes, tabulate}
 
 infixl 60 _⊞_
 -- 3.2, 2: the sum of two words, modulo 2 ^ 32
@@ -146,8 +146,7 @@ hashValue h m (suc n) = compress (hashValue h m n) (block m n)
 
 -- 6.2.2, at its end: the digest, the words' bytes one after the other
 unfoldable pub digest : List ℕ → List ℕ
-digest [] = []
-digest (w ∷ h) = bigEndian 4 w ++ digest h
+digest h = inBytes 4 h
 
 -- 6.2: SHA-256 of a message
 unfoldable pub sha256 : List ℕ → List ℕ

@@ -1,25 +1,15 @@
 -- Laws of specs/Label.antt: the class of a byte, and its canonical form. Assumes nothing.
-use Prim.Native.Nat.{ℕ, _+_, _≤_, _<_}
-use mathlib.Core.Bool.{Bool, true, false, cond, _&&_, _||_, and-false}
+use Prim.Native.Nat.{ℕ, _+_, _≤_}
+use mathlib.Core.Bool.{Bool, true, false, cond, _||_}
 use mathlib.Core.Path.{_≡_, refl, sym, ap, _∙_}
 use mathlib.Core.List.{List, map}
 use native.Mathlib.Omega.{arith}
 use lib.Dec.{leb, eqb}
 use lib.ListN.{length, length-map}
-use borrow.Author.Tests.{le-leb, lt-leb, leb-true}
+use borrow.Author.Tests.{leb-true}
 use Rattle.base.proofs.Lists.{every-map}
-use Rattle.base.proofs.Tests.{and-left, and-right}
+use Rattle.base.proofs.Tests.{and-left, and-right, within, under, over}
 use Rattle.name.specs.Label.{isUpper, isLower, isDigit, isLabelByte, Label, lower}
-
-module _ (low b high : ℕ) where
-  pub within : low ≤ b → b ≤ high → (leb low b && leb b high) ≡ true
-  within above below = λ i. le-leb low b above i && le-leb b high below i
-
-  pub under : b < low → (leb low b && leb b high) ≡ false
-  under below = ap (λ (t : Bool). t && leb b high) (lt-leb low b below)
-
-  pub over : high < b → (leb low b && leb b high) ≡ false
-  over above = ap (λ (t : Bool). leb low b && t) (lt-leb b high above) ∙ and-false (leb low b)
 
 -- a byte's class, from the five tests
 pub label-byte : (b : ℕ) {u l d h s : Bool} → isUpper b ≡ u → isLower b ≡ l → isDigit b ≡ d → eqb b 45 ≡ h → eqb b 95 ≡ s

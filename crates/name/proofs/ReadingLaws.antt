@@ -1,8 +1,8 @@
 -- The loop that reads a name in text, from its last byte to its first, over TextLaws.antt. Assumes nothing.
-use Prim.Native.Nat.{ℕ, zero, suc, _+_, _-_, _≤_, _<_}
+use Prim.Native.Nat.{ℕ, suc, _+_, _-_, _≤_, _<_}
 use mathlib.Core.Bool.{Bool, true, false, _&&_, and-false, true≢false, false≢true}
 use mathlib.Core.Path.{_≡_, refl, sym, ap, ap₂, subst, _∙_}
-use mathlib.Core.Logic.{_⊎_, inl, inr}
+use mathlib.Core.Logic.{_⊎_, inr}
 use mathlib.Core.List.{List, [], _∷_, _++_}
 use native.Mathlib.Omega.{arith}
 use native.Mathlib.Numerals.{add-one}
@@ -16,7 +16,7 @@ use Rattle.name.specs.Label.{Label, isLabelByte, lower}
 use Rattle.name.specs.Name.{wire, text, Spells, canonical, padded}
 use Rattle.name.specs.Promise.{Reads, ReadsNone, noName}
 use Rattle.name.specs.declared.WireName.{WireName}
-use Rattle.name.proofs.NameLaws.{lowered, length-text, canonical-wire, length-canonical}
+use Rattle.name.proofs.NameLaws.{length-text, canonical-wire, length-canonical}
 use Rattle.name.proofs.WireLaws.{isNil}
 use Rattle.name.proofs.TextLaws.{lead, shifted, valid, lead-dot, lead-byte, lead-label, shifted-dot, shifted-byte, valid-dot, valid-byte, some-left, valid-on, text-valid, text-shifted, valid-rest}
 

@@ -12,7 +12,7 @@ use borrow.Author.Tests.{eq-eqb, ne-eqb, le-leb, lt-leb, eqb-true, eqb-false, le
 use Rattle.base.specs.Logic.{Every, Decides}
 use Rattle.base.proofs.Tests.{and-left, and-right}
 use Rattle.name.specs.Label.{Label, isLabelByte}
-use Rattle.name.specs.Name.{wire, Name, Proper}
+use Rattle.name.specs.Name.{wire, Proper}
 
 -- the list is empty
 abbrev pub isNil : List ℕ → Bool

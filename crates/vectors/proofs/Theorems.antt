@@ -1,9 +1,9 @@
 -- The definition of SHA-256, computed: it gives NIST's examples. Assumes nothing.
 use mathlib.Core.Path.{refl}
-use Rattle.base.specs.Bytes.{bigEndian, tabulate}
+use Rattle.base.specs.Bytes.{bigEndian, inBytes, tabulate}
 use Rattle.hash.specs.Sha256.{_⊞_, SHR, SHL, ROTR, complement, Ch, Maj, Σ₀, Σ₁, σ₀, σ₁, K, zeroBytes, padding, padded, block, word, words, H₀, W, schedule, T₁, T₂, round, rounds, sums, compress, hashValue, digest, sha256}
 use Rattle.vectors.specs.Examples.{examples, Hold}
 
 pub examples-hold : Hold examples
-unfolding Hold examples sha256 digest hashValue compress sums rounds round T₁ T₂ schedule W H₀ words word block padded padding zeroBytes K Σ₀ Σ₁ σ₀ σ₁ Ch Maj ROTR complement SHR SHL _⊞_ bigEndian tabulate
+unfolding Hold examples sha256 digest hashValue compress sums rounds round T₁ T₂ schedule W H₀ words word block padded padding zeroBytes K Σ₀ Σ₁ σ₀ σ₁ Ch Maj ROTR complement SHR SHL _⊞_ bigEndian inBytes tabulate
 examples-hold = (refl, (refl, (refl, tt)))

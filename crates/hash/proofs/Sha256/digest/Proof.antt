@@ -3,20 +3,21 @@ use native.Mathlib.Omega.{arith}
 use Prim.Native.Nat.{_-_, _*_, _≤_}
 use mathlib.Core.Path.{_≡_, refl, sym, ap, _∙_}
 use lib.Seq.{take-all}
-use Rattle.hash.proofs.EndLaws.{digest-more}
+use Rattle.base.specs.Bytes.{inBytes}
+use Rattle.base.proofs.Bytes.{in-bytes-more}
 use lib.ListN.{length, take}
 use Rattle.hash.specs.Sha256.{digest}
 use Rattle.hash.proofs.Sha256.digest.Statement.{statement}
 use Rattle.hash.proofs.Sha256.digest.Tie as tie
 
 abbrev Inv-loop : tie.InvT-loop
-Inv-loop words bytes₀ i₀ bytes i = (i ≤ 8) × (length bytes ≡ 32) × (take (4 * i) bytes ≡ digest (take i words))
+Inv-loop words bytes₀ i₀ bytes i = (i ≤ 8) × (length bytes ≡ 32) × (take (4 * i) bytes ≡ inBytes 4 (take i words))
 
 abbrev μ-loop : tie.MeasureT-loop
 μ-loop words bytes₀ i₀ bytes i = 8 - i
 
 loop-holds : tie.Need-loop-holds Inv-loop μ-loop
-unfolding digest
+unfolding inBytes
 loop-holds c = (omega arith, refl, refl)
 
 mul-to-bytes : tie.Need-mul-to-bytes Inv-loop μ-loop
@@ -56,15 +57,16 @@ loop-again c =
     let eight : length words ≡ 8 = search needs in (
       omega arith,
       c .before .put .kept .0 ∙ l .inv .1,
-      digest-more words (l .bytes) _ _ (l .i) (c .before .put .ensures) (c .before .before .before .before .to-bytes .ensures) (l .inv .2) four (omega arith) (omega arith),
+      in-bytes-more 4 words (l .bytes) _ _ (l .i) (c .before .put .ensures) (c .before .before .before .before .to-bytes .ensures) (l .inv .2) (omega arith) (omega arith),
     )
 
 returns : tie.Need-returns Inv-loop μ-loop
+unfolding digest
 returns c =
     let l = c .before .loop in
     let words = c .before .before .before .args .self .words in
     let eight : length words ≡ 8 = search needs in
-    sym (take-all (4 * l .i) (l .bytes) (omega arith)) ∙ l .inv .2 ∙ ap digest (take-all (l .i) words (omega arith))
+    sym (take-all (4 * l .i) (l .bytes) (omega arith)) ∙ l .inv .2 ∙ ap (inBytes 4) (take-all (l .i) words (omega arith))
 
 pub digest-spec : {M : Type 1} → statement M
 digest-spec =

@@ -5,7 +5,7 @@ use mathlib.Core.List.{_∷_}
 use lib.ListN.{length, take, replicate}
 use Rattle.base.specs.Bytes.{overlay}
 use Rattle.hash.specs.Sha256.{zeroBytes}
-use Rattle.hash.proofs.EndLaws.{padding-written}
+use Rattle.hash.proofs.PaddingLaws.{padding-written}
 use borrow.Author.Needs.{needs}
 use Rattle.hash.proofs.padding.padding_bytes.Statement.{statement}
 use Rattle.hash.proofs.padding.padding_bytes.Tie as tie

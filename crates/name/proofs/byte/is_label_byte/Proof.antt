@@ -3,7 +3,8 @@ use mathlib.Core.Logic.{_⊎_, inl, inr, ⊎-elim}
 use native.Mathlib.Omega.{arith}
 use borrow.Author.Tests.{ne-eqb}
 use Rattle.name.specs.Label.{isUpper, isLower, isDigit, isLabelByte}
-use Rattle.name.proofs.LabelLaws.{within, under, over, label-byte}
+use Rattle.base.proofs.Tests.{within, under, over}
+use Rattle.name.proofs.LabelLaws.{label-byte}
 use Rattle.name.proofs.byte.is_label_byte.Statement.{statement}
 use Rattle.name.proofs.byte.is_label_byte.Tie as tie
 

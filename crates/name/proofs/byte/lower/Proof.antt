@@ -2,7 +2,8 @@ use mathlib.Core.Path.{sym}
 use native.Mathlib.Omega.{arith}
 use borrow.Author.Needs.{needs}
 use Rattle.name.specs.Label.{isUpper}
-use Rattle.name.proofs.LabelLaws.{within, under, over, lower-upper, lower-other}
+use Rattle.base.proofs.Tests.{within, under, over}
+use Rattle.name.proofs.LabelLaws.{lower-upper, lower-other}
 use Rattle.name.proofs.byte.lower.Statement.{statement}
 use Rattle.name.proofs.byte.lower.Tie as tie
 

@@ -1,0 +1,177 @@
+// How record data are spelled: each text is read, and followed by its bytes in hexadecimal and by the text that is written for them. What each line must
+// be stands in the file `stdout`, written before this program first ran: the DHCIDs from the hexadecimal forms of RFC 4701's three examples (3.6), base64 by
+// Python's base64, addresses by Python's ipaddress, and "no" by document 01's rules. RFC 4701 in print has its base64 right. Its French translation does not:
+// example 1 has I for l before OjxfN, which spells another DHCID (a line here), example 2 has I for l in UDlW, and example 3 a letter too many in VytcKD.
+// The RFC's generic forms are printed in words of 57 and 13 digits, which RFC 3597 does not allow (a line here).
+use libc::STDOUT_FILENO;
+use text::address::a_length;
+use text::address::put_a;
+use text::address::put_aaaa;
+use text::address::read_a;
+use text::address::read_aaaa;
+use text::dhcid::DhcidWords;
+use text::dhcid::ReadDhcid;
+use text::dhcid::put_base64;
+ghost use Prim.Native.Nat.{_≤_};
+ghost use lib.ListN.{length};
+
+fn print(bytes: &[u8]) {
+    io::write_all(STDOUT_FILENO, bytes);
+}
+
+fn wide(b: u8) -> u64 {
+    b as u64
+}
+
+fn print_hex(bytes: &[u8]) {
+    let mut i: usize = 0;
+    while i < bytes.len() {
+        io::print_hex(STDOUT_FILENO, wide(bytes[i]), 2);
+        i += 1;
+    }
+}
+
+fn a(word: &[u8]) {
+    print(b"A ");
+    print(word);
+    let read = read_a(word);
+    let bytes = read.bytes;
+    if read.found {
+        print(b": ");
+        print_hex(&bytes);
+        print(b" ");
+        print_a(&bytes);
+    } else {
+        print(b": no address\n");
+    }
+}
+
+fn print_a(bytes: &[u8; 4]) {
+    let mut line = [10u8; 17];
+    let n = a_length(bytes);
+    if n <= 16 {
+        put_a(&mut line, 0, bytes);
+        print(&line[..n + 1]);
+    }
+}
+
+fn aaaa(word: &[u8]) {
+    print(b"AAAA ");
+    print(word);
+    let read = read_aaaa(word);
+    let bytes = read.bytes;
+    if read.found {
+        print(b": ");
+        print_hex(&bytes);
+        print(b" ");
+        let mut line = [10u8; 40];
+        put_aaaa(&mut line, 0, &bytes);
+        print(&line);
+    } else {
+        print(b": no address\n");
+    }
+}
+
+// Where the word that begins at `at` ends: at a blank, or at the end.
+fn word_end(words: &[u8], at: usize) -> usize
+    requires { ⌜ at ≤ length (now words) ⌝ }
+    ensures { λ r. ⌜ (at ≤ r) × (r ≤ length (now (words .entry))) ⌝ }
+{
+    let mut end = at;
+    while end < words.len() {
+        if words[end] == 32 {
+            return end;
+        }
+        end += 1;
+    }
+    end
+}
+
+// The words are parted by single blanks.
+fn read_words(words: &[u8]) -> ReadDhcid {
+    let mut state = DhcidWords::begin();
+    let mut at: usize = 0;
+    while at < words.len() {
+        let end = word_end(words, at);
+        state = state.word(&words[at..end]);
+        at = end + 1;
+    }
+    state.finish()
+}
+
+fn dhcid(words: &[u8]) {
+    print(b"DHCID ");
+    print(words);
+    let read = read_words(words);
+    let bytes = read.bytes;
+    if read.found {
+        print(b": ");
+        print_hex(&bytes);
+        print(b" ");
+        let mut line = [10u8; 49];
+        put_base64(&mut line, 0, &bytes);
+        print(&line);
+    } else {
+        print(b": no DHCID\n");
+    }
+}
+
+fn addresses() {
+    a(b"192.0.2.2");
+    a(b"0.0.0.0");
+    a(b"255.255.255.255");
+    a(b"9.10.99.100");
+    a(b"256.0.0.1");
+    a(b"192.0.2.02");
+    a(b"00.0.0.0");
+    a(b"192.0.2");
+    a(b"192.0.2.2.1");
+    a(b"192..2.2");
+    a(b"192.0.2.");
+    a(b".0.2.2");
+    a(b"192.0.2.x");
+    a(b"");
+    aaaa(b"2001:DB8:0:0:0:0:1234:5678");
+    aaaa(b"2001:0db8:0000:0000:0000:0000:1234:5678");
+    aaaa(b"ABCD:EF01:2345:6789:abcd:ef01:2345:6789");
+    aaaa(b"0:0:0:0:0:0:0:1");
+    aaaa(b"2001:DB8:0:0:0:1234:5678");
+    aaaa(b"2001:DB8:0:0:0:0:0:1234:5678");
+    aaaa(b"2001:DB8::1234:5678");
+    aaaa(b"2001:DB8:0:0:0:0:1234:56789");
+    aaaa(b"2001:DB8:0:0:0:0:1234:567g");
+    aaaa(b"2001:DB8:0:0:0:0:1234:");
+    aaaa(b"");
+}
+
+fn dhcids() {
+    dhcid(b"AAIBY2/AuCccgoJbsaxcQc9TUapptP69l OjxfNuVAA2kjEA=");
+    dhcid(b"AAEBOSD+XR3Os/0LozeXVqcNc7FwCfQdW L3b/NaiUDlW2No=");
+    dhcid(b"AAABxLmlskllE0MVjd57zHcWmEH3pCQ6V ytcKD//7es/deY=");
+    dhcid(b"\\# 35 000201636fc0b8271c82825bb1ac5c41cf5351aa69b4febd94e8f17cdb95000da48c40");
+    dhcid(b"\\# 35 0001013920fe5d1dceb3fd0ba3379756a70d73b17009f41d58bddbfcd6a2503956d8da");
+    dhcid(b"\\# 35 000001c4b9a5b249651343158dde7bcc77169841f7a4243a572b5c283fffedeb3f75e6");
+    dhcid(b"\\# 35 000201636fc0b8271c82825bb1ac5c41cf5351aa69b4febd94e8f17cd b95000da48c40");
+    dhcid(b"\\# 35 000201636fc0b8271c82825bb1ac5c41cf5351aa69b4febd94e8f17c DB95000DA48C40");
+    dhcid(
+        b"A A I B Y 2 / A u C c c g o J b s a x c Q c 9 T U a p p t P 6 9 l O j x f N u V A A 2 k j E A =",
+    );
+    dhcid(b"AAIBY2/AuCccgoJbsaxcQc9TUapptP69lOjxfNuVAA2kjEB=");
+    dhcid(b"AAIBY2/AuCccgoJbsaxcQc9TUapptP69IOjxfNuVAA2kjEA=");
+    dhcid(b"AAABxLmlskllE0MVjd57zHcWmEH3pCQ6VyticKD//7es/deY=");
+    dhcid(b"AAIBY2/AuCccgoJbsaxcQc9TUapptP69l");
+    dhcid(b"AAIBY2/AuCccgoJbsaxcQc9TUapptP69l=OjxfNuVAA2kjA=");
+    dhcid(b"AAIBY2/AuCccgoJbsaxcQc9TUapptP69lOjxfNuVAA2kjA==");
+    dhcid(b"AAIBY2/AuCccgoJbsaxcQc9TUapptP69lOjxfNuVAA2kjEAA");
+    dhcid(b"AAICY2/AuCccgoJbsaxcQc9TUapptP69lOjxfNuVAA2kjEA=");
+    dhcid(b"AAMBY2/AuCccgoJbsaxcQc9TUapptP69lOjxfNuVAA2kjEA=");
+    dhcid(b"\\# 34 000201636fc0b8271c82825bb1ac5c41cf5351aa69b4febd94e8f17cdb95000da48c");
+    dhcid(b"\\# 35 000201636fc0b8271c82825bb1ac5c41cf5351aa69b4febd94e8f17cdb95000da48c");
+    dhcid(b"\\# 35 000201636fc0b8271c82825bb1ac5c41cf5351aa69b4febd94e8f17cdb95000da48c4000");
+    dhcid(b"");
+}
+
+fn main() {
+    addresses();
+    dhcids();
+}

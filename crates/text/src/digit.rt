@@ -1,0 +1,52 @@
+// Digits of numbers.
+ghost use mathlib.Core.Path.{_≡_};
+ghost use Prim.Native.Nat.{_<_};
+ghost use lib.ListN.{length, take};
+ghost use Rattle.text.specs.Digits as spec;
+
+// The value of a decimal or hexadecimal digit, in either case; 16 for any other byte.
+pub fn digit_value(b: u8) -> u8
+    ensures { λ r. ⌜ r ≡ spec.digitValue b ⌝ }
+{
+    match b {
+        b'0'..=b'9' => b - 48,
+        b'A'..=b'F' => b - 55,
+        b'a'..=b'f' => b - 87,
+        _ => 16,
+    }
+}
+
+// The hexadecimal digit of a number below 16, in lower case.
+pub fn hex_digit(v: u8) -> u8
+    requires { ⌜ v < 16 ⌝ }
+    ensures { λ r. ⌜ r ≡ spec.hexDigit v ⌝ }
+{
+    if v < 10 { v + 48 } else { v + 87 }
+}
+
+// The digits of a byte in decimal: the first `len` of `digits`.
+pub struct DecimalByte {
+    pub digits: [u8; 3],
+    pub len: usize,
+}
+
+pub fn decimal(n: u8) -> DecimalByte
+    ensures { λ r. ⌜ (take (r .len) (r .digits) ≡ spec.decimal 3 n) × (r .len ≡ length (spec.decimal 3 n)) ⌝ }
+{
+    if n < 10 {
+        return DecimalByte {
+            digits: [48 + n, 0, 0],
+            len: 1,
+        };
+    }
+    if n < 100 {
+        return DecimalByte {
+            digits: [48 + n / 10, 48 + n % 10, 0],
+            len: 2,
+        };
+    }
+    DecimalByte {
+        digits: [48 + n / 10 / 10, 48 + n / 10 % 10, 48 + n % 10],
+        len: 3,
+    }
+}
