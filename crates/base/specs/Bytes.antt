@@ -1,5 +1,7 @@
 -- Lists of bytes: what a copy leaves, and a number as bytes.
 use Prim.Native.Nat.{ℕ, zero, suc, _+_, _*_, _/_, _%_, _^_}
+use Prim.Native.Char.{code}
+use Prim.Native.String.{String, [] as empty, _∷_ as _then_}
 use mathlib.Core.List.{List, [], _∷_, _++_}
 use lib.ListN.{length, take, drop}
 
@@ -21,3 +23,8 @@ inBytes n (x ∷ xs) = bigEndian n x ++ inBytes n xs
 unfoldable pub tabulate : (ℕ → ℕ) → ℕ → List ℕ
 tabulate f zero = []
 tabulate f (suc n) = tabulate f n ++ (f n ∷ [])
+
+-- the bytes of a text that is written out, each the code of its character; for ASCII
+unfoldable pub ascii : String → List ℕ
+ascii empty = []
+ascii (c then s) = code c ∷ ascii s

@@ -1,0 +1,81 @@
+-- Functions that decide a relation: they find what is related, and nothing else; and the tests that they are made of. Assumes nothing.
+use Prim.Native.Nat.{ℕ}
+use mathlib.Core.Bool.{Bool, true, false, _&&_, false≢true}
+use mathlib.Core.Path.{_≡_, refl, sym, ap, ap₂, subst, _∙_}
+use mathlib.Core.Option.{Option, none, some, Option·none-ne-some}
+use mathlib.Core.List.{List, [], _∷_}
+use lib.Dec.{eqb}
+use borrow.Author.Tests.{eqb-true, eq-eqb}
+use Rattle.base.specs.Logic.{Every}
+use Rattle.base.proofs.Tests.{and-left, and-right}
+
+-- f finds just what R gives
+pub record Reads {A B : Type 0} (f : A → Option B) (R : A → B → Type 0) : Type 0 where
+  pub finds : (a : A) (b : B) → R a b → f a ≡ some b
+  pub is : (a : A) (b : B) → f a ≡ some b → R a b
+
+-- what it does not find, R does not give
+pub not-found : {A B : Type 0} {f : A → Option B} {R : A → B → Type 0} → Reads f R → (a : A) → f a ≡ none → (b : B) → R a b → ⊥
+not-found reads a e b r = Option·none-ne-some b (sym e ∙ reads .finds a b r)
+
+-- ---- an answer under a condition
+
+-- r if the test t passes, and none if not
+unfoldable pub provided : {A : Type 0} → Bool → Option A → Option A
+provided true r = r
+provided false r = none
+
+module _ {A : Type 0} where
+  -- the test passes, so the answer is r
+  pub provided-by : {t : Bool} {r : Option A} → t ≡ true → provided t r ≡ r
+  unfolding provided
+  provided-by {t} {r} h = ap (λ (x : Bool). provided x r) h
+
+  -- there is an answer, so the test passed
+  pub provided-is : {t : Bool} {r : Option A} {a : A} → provided t r ≡ some a → (t ≡ true) × (r ≡ some a)
+  unfolding provided
+  provided-is {t = true} e = (refl, e)
+  provided-is {t = false} {r} {a} e = absurd (Option·none-ne-some a e)
+
+-- ---- each element passes a test
+
+-- the test that decides Every, if p decides P
+unfoldable pub all : {A : Type 0} → (A → Bool) → List A → Bool
+all p [] = true
+all p (a ∷ l) = p a && all p l
+
+module _ {A : Type 0} {P : A → Type 0} (p : A → Bool) where
+  pub all-true : ((a : A) → p a ≡ true → P a) → (l : List A) → all p l ≡ true → Every P l
+  unfolding all
+  all-true g [] e = Every.none
+  all-true g (a ∷ l) e = Every.more (g a (and-left (p a) (all p l) e)) (all-true g l (and-right (p a) (all p l) e))
+
+  pub every-all : ((a : A) → P a → p a ≡ true) → (l : List A) → Every P l → all p l ≡ true
+  unfolding all
+  every-all g [] Every.none = refl
+  every-all g (a ∷ l) (Every.more h hs) = ap₂ _&&_ (g a h) (every-all g l hs)
+
+-- ---- two lists of bytes are the same
+
+unfoldable pub eqBytes : List ℕ → List ℕ → Bool
+eqBytes [] [] = true
+eqBytes [] (y ∷ b) = false
+eqBytes (x ∷ a) [] = false
+eqBytes (x ∷ a) (y ∷ b) = eqb x y && eqBytes a b
+
+-- true: the lists are equal
+pub eqBytes-true : (a b : List ℕ) → eqBytes a b ≡ true → a ≡ b
+unfolding eqBytes
+eqBytes-true [] [] e = refl
+eqBytes-true [] (y ∷ b) e = absurd (false≢true e)
+eqBytes-true (x ∷ a) [] e = absurd (false≢true e)
+eqBytes-true (x ∷ a) (y ∷ b) e = ap₂ _∷_ (eqb-true x y (and-left (eqb x y) (eqBytes a b) e)) (eqBytes-true a b (and-right (eqb x y) (eqBytes a b) e))
+
+eqBytes-refl : (a : List ℕ) → eqBytes a a ≡ true
+unfolding eqBytes
+eqBytes-refl [] = refl
+eqBytes-refl (x ∷ a) = ap₂ _&&_ (eq-eqb x x refl) (eqBytes-refl a)
+
+-- the other way: the lists are equal, so the test passes
+pub eq-eqBytes : (a b : List ℕ) → a ≡ b → eqBytes a b ≡ true
+eq-eqBytes a b e = subst (λ (l : List ℕ). eqBytes a l ≡ true) e (eqBytes-refl a)

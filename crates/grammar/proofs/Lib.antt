@@ -1,0 +1,13 @@
+pub mod Deciding
+pub mod Scan
+pub mod ScanLaws
+pub mod OwnerReader
+pub mod AddressReader
+pub mod DhcidReader
+pub mod Content
+pub mod ContentLaws
+pub mod Reader
+pub mod ReaderLaws
+pub mod CutLaws
+pub mod Theorems
+pub mod Examples

@@ -1,0 +1,4 @@
+pub mod Listing
+pub mod Faults
+pub mod Outcome
+pub mod Examples
