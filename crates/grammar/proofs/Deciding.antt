@@ -18,6 +18,14 @@ pub record Reads {A B : Type 0} (f : A → Option B) (R : A → B → Type 0) : 
 pub not-found : {A B : Type 0} {f : A → Option B} {R : A → B → Type 0} → Reads f R → (a : A) → f a ≡ none → (b : B) → R a b → ⊥
 not-found reads a e b r = Option·none-ne-some b (sym e ∙ reads .finds a b r)
 
+-- and what R does not give, it does not find
+pub none-found : {A B : Type 0} {f : A → Option B} {R : A → B → Type 0} → Reads f R → (a : A) → ((b : B) → R a b → ⊥) → f a ≡ none
+none-found {B = B} {f = f} reads a never = go (f a) refl
+  where
+    go : (r : Option B) → f a ≡ r → r ≡ none
+    go none e = refl
+    go (some b) e = absurd (never b (reads .is a b e))
+
 -- ---- an answer under a condition
 
 -- r if the test t passes, and none if not

@@ -156,6 +156,22 @@ pub comes-read : {t : List ℕ} {v : Verdict} → Comes t v → read t ≡ v
 unfolding read
 comes-read {t} c = comes-up-to c (suc (length t)) (omega arith)
 
+-- ---- what a text comes to, by its first entry and the text after it
+
+enough : (n : ℕ) (t : List ℕ) → length t < n → readUpTo n t ≡ read t
+enough n t h = comes-up-to (comes t) n h
+
+pub read-step : (t : List ℕ) → read t ≡ byEnding read t (contentOf (begins isWordByte t) (scan plain outside t .words)) (scan plain outside t .ending)
+unfolding read
+read-step t = go (laid-out outside t)
+  where
+    go : LaidOut outside t → read t ≡ byEnding read t (contentOf (begins isWordByte t) (scan plain outside t .words)) (scan plain outside t .ending)
+    go (to-end ws w) = entry-to-end (length t) w ∙ rw (words-scan w)
+    go (to-line e u ws q w) =
+        entry-to-line (length t) u q w ∙ ap (followed (contentOf (begins isWordByte e) ws) (length e + 1)) (enough (length t) u (rest-shorter e u q))
+        ∙ rw (q, line-scan u w, line-begins e u) (ap (λ (m : ℕ). followed (contentOf (begins isWordByte e) ws) m (read u)) (omega (arith, length-append e (10 ∷ u))))
+    go (to-fault f) = entry-to-fault (length t) f ∙ rw (fault-scan f)
+
 -- ---- so a text comes to one thing
 
 recordsOf : Verdict → List ResourceRecord

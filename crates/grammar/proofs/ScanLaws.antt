@@ -14,29 +14,29 @@ use Rattle.grammar.proofs.Scan.{Mode, plain, comment, letter, atEnd, at
 
 -- ---- one byte
 
-step : (m : Mode) (d : Depth) (b : ℕ) (t : List ℕ) (k : Kind) → kindOf b ≡ k → scan m d (b ∷ t) ≡ put (act m d k) b t (scan (modeAfter m k) (depthAfter m d k) t)
+pub byte-scan : (m : Mode) (d : Depth) (b : ℕ) (t : List ℕ) (k : Kind) → kindOf b ≡ k → scan m d (b ∷ t) ≡ put (act m d k) b t (scan (modeAfter m k) (depthAfter m d k) t)
 unfolding scan
-step m d b t k e = rw e
+byte-scan m d b t k e = rw e
 
 -- in a comment a byte that may stand there is passed over
 comment-byte : (d : Depth) (b : ℕ) (t : List ℕ) (k : Kind) → kindOf b ≡ k → isCommentKind k ≡ true → scan comment d (b ∷ t) ≡ scan comment d t
-comment-byte d b t wordByte e c = step comment d b t wordByte e
-comment-byte d b t blank e c = step comment d b t blank e
+comment-byte d b t wordByte e c = byte-scan comment d b t wordByte e
+comment-byte d b t blank e c = byte-scan comment d b t blank e
 comment-byte d b t lineEnd e c = absurd (false≢true c)
-comment-byte d b t opening e c = step comment d b t opening e
-comment-byte d b t closing e c = step comment d b t closing e
-comment-byte d b t semicolon e c = step comment d b t semicolon e
+comment-byte d b t opening e c = byte-scan comment d b t opening e
+comment-byte d b t closing e c = byte-scan comment d b t closing e
+comment-byte d b t semicolon e c = byte-scan comment d b t semicolon e
 comment-byte d b t notAllowed e c = absurd (false≢true c)
 
 -- at any other byte the comment is over
 comment-over-byte : (d : Depth) (b : ℕ) (t : List ℕ) (k : Kind) → kindOf b ≡ k → isCommentKind k ≡ false → scan comment d (b ∷ t) ≡ scan plain d (b ∷ t)
 comment-over-byte d b t wordByte e c = absurd (true≢false c)
 comment-over-byte d b t blank e c = absurd (true≢false c)
-comment-over-byte d b t lineEnd e c = step comment d b t lineEnd e ∙ sym (step plain d b t lineEnd e)
+comment-over-byte d b t lineEnd e c = byte-scan comment d b t lineEnd e ∙ sym (byte-scan plain d b t lineEnd e)
 comment-over-byte d b t opening e c = absurd (true≢false c)
 comment-over-byte d b t closing e c = absurd (true≢false c)
 comment-over-byte d b t semicolon e c = absurd (true≢false c)
-comment-over-byte d b t notAllowed e c = step comment d b t notAllowed e ∙ sym (step plain d b t notAllowed e)
+comment-over-byte d b t notAllowed e c = byte-scan comment d b t notAllowed e ∙ sym (byte-scan plain d b t notAllowed e)
 
 comment-over : (d : Depth) (t : List ℕ) → begins isCommentByte t ≡ false → scan comment d t ≡ scan plain d t
 unfolding scan
@@ -48,7 +48,7 @@ comment-run d [] rest h s = comment-over d rest s
 comment-run d (b ∷ c) rest (Every.more hb h) s = comment-byte d b (c ++ rest) (kindOf b) refl hb ∙ comment-run d c rest h s
 
 word-byte : (d : Depth) (b : ℕ) (t : List ℕ) (k : Kind) → kindOf b ≡ k → isWordKind k ≡ true → scan plain d (b ∷ t) ≡ put letter b t (scan plain d t)
-word-byte d b t wordByte e c = step plain d b t wordByte e
+word-byte d b t wordByte e c = byte-scan plain d b t wordByte e
 word-byte d b t blank e c = absurd (false≢true c)
 word-byte d b t lineEnd e c = absurd (false≢true c)
 word-byte d b t opening e c = absurd (false≢true c)
@@ -58,8 +58,8 @@ word-byte d b t notAllowed e c = absurd (false≢true c)
 
 -- ---- one piece
 
--- words before others
-abbrev preceded : List (List ℕ) → Laid → Laid
+-- with words before
+abbrev pub preceded : List (List ℕ) → Laid → Laid
 preceded vs r = record { words = vs ++ r .words; ending = r .ending }
 
 word-run : (d : Depth) (b : ℕ) (w rest : List ℕ) → Every (λ b. isWordByte b ≡ true) (b ∷ w) → begins isWordByte rest ≡ false
@@ -68,12 +68,12 @@ word-run d b [] rest (Every.more hb h) s = word-byte d b rest (kindOf b) refl hb
 word-run d b (y ∷ w) rest (Every.more hb (Every.more hy h)) s =
     word-byte d b (y ∷ w ++ rest) (kindOf b) refl hb ∙ rw (word-run d y w rest (Every.more hy h) s, hy)
 
-piece-scan : {d d′ : Depth} {t rest : List ℕ} {ws : List (List ℕ)} → Piece d t ws d′ rest → scan plain d t ≡ preceded ws (scan plain d′ rest)
-piece-scan (a-blank {b = b} {rest} k) = step plain _ b rest _ k
-piece-scan (line-inside {b = b} {rest} k) = step plain _ b rest _ k
-piece-scan (opens {b = b} {rest} k) = step plain _ b rest _ k
-piece-scan (closes {b = b} {rest} k) = step plain _ b rest _ k
-piece-scan (a-comment {d} {b} {t} {c} {rest} k r) = step plain d b t _ k ∙ rw (r .cut) (comment-run d c rest (r .each) (r .longest))
+pub piece-scan : {d d′ : Depth} {t rest : List ℕ} {ws : List (List ℕ)} → Piece d t ws d′ rest → scan plain d t ≡ preceded ws (scan plain d′ rest)
+piece-scan (a-blank {b = b} {rest} k) = byte-scan plain _ b rest _ k
+piece-scan (line-inside {b = b} {rest} k) = byte-scan plain _ b rest _ k
+piece-scan (opens {b = b} {rest} k) = byte-scan plain _ b rest _ k
+piece-scan (closes {b = b} {rest} k) = byte-scan plain _ b rest _ k
+piece-scan (a-comment {d} {b} {t} {c} {rest} k r) = byte-scan plain d b t _ k ∙ rw (r .cut) (comment-run d c rest (r .each) (r .longest))
 piece-scan (a-word {d} {b} {t} {w} {rest} r) = rw (r .cut) (word-run d b w rest (r .each) (r .longest))
 
 -- ---- what the definitions give, the scan finds
@@ -89,9 +89,9 @@ one-words w w′ = ap (λ (l : Laid). l .words) (sym (words-scan w) ∙ words-sc
 pub fault-scan : {d : Depth} {t : List ℕ} → ShapeFault d t → scan plain d t .ending ≡ atFault
 unfolding scan
 fault-scan ShapeFault.never-closed = refl
-fault-scan (ShapeFault.nested {b} {t} k) = ap (λ (l : Laid). l .ending) (step plain _ b t _ k)
-fault-scan (ShapeFault.stray {b} {t} k) = ap (λ (l : Laid). l .ending) (step plain _ b t _ k)
-fault-scan (ShapeFault.not-allowed {b = b} {t} k) = ap (λ (l : Laid). l .ending) (step plain _ b t _ k)
+fault-scan (ShapeFault.nested {b} {t} k) = ap (λ (l : Laid). l .ending) (byte-scan plain _ b t _ k)
+fault-scan (ShapeFault.stray {b} {t} k) = ap (λ (l : Laid). l .ending) (byte-scan plain _ b t _ k)
+fault-scan (ShapeFault.not-allowed {b = b} {t} k) = ap (λ (l : Laid). l .ending) (byte-scan plain _ b t _ k)
 fault-scan (ShapeFault.later p f) = ap (λ (l : Laid). l .ending) (piece-scan p) ∙ fault-scan f
 
 -- ---- an entry's text alone, and with a 10 and a text after it
@@ -136,7 +136,7 @@ piece-on u (a-comment k r) = a-comment k (run-on isCommentByte 10 u no-comment r
 piece-on u (a-word r) = a-word (run-on isWordByte 10 u no-word r)
 
 pub line-scan : {d : Depth} {e : List ℕ} {ws : List (List ℕ)} (u : List ℕ) → Words d e ws → scan plain d (e ++ 10 ∷ u) ≡ record { words = ws; ending = atLine u }
-line-scan u Words.at-end = step plain outside 10 u lineEnd line-kind
+line-scan u Words.at-end = byte-scan plain outside 10 u lineEnd line-kind
 line-scan u (Words.more {vs = vs} p w e) = piece-scan (piece-on u p) ∙ ap (preceded vs) (line-scan u w) ∙ rw e
 
 isLineEnd : Kind → Bool

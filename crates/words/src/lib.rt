@@ -1,0 +1,145 @@
+// The words of a listing's entry, one at a time, and how the entry ends. A loop passes one piece at each turn, and the runs of a word and of a
+// comment are loops of their own, so each byte is looked at twice at most.
+ghost use mathlib.Core.Path.{_≡_};
+ghost use Prim.Native.Nat.{_≤_};
+ghost use lib.ListN.{length};
+ghost use Rattle.grammar.specs.Listing.{kindOf, isWordByte, isCommentByte};
+ghost use Rattle.words.specs.NextIs.{kindMeant, RunTo, NextIs};
+
+// What a byte is where no comment is open.
+pub enum ByteKind {
+    Blank,
+    LineEnd,
+    Opening,
+    Closing,
+    Semicolon,
+    Word,
+    NotAllowed,
+}
+
+pub fn kind_of(b: u8) -> ByteKind
+    ensures { λ r. ⌜ kindMeant r ≡ kindOf b ⌝ }
+{
+    match b {
+        b'\t' | b' ' => ByteKind::Blank,
+        b'\n' => ByteKind::LineEnd,
+        b'(' => ByteKind::Opening,
+        b')' => ByteKind::Closing,
+        b';' => ByteKind::Semicolon,
+        33..=126 => ByteKind::Word,
+        _ => ByteKind::NotAllowed,
+    }
+}
+
+pub fn is_word_byte(b: u8) -> bool
+    ensures { λ r. ⌜ r ≡ isWordByte b ⌝ }
+{
+    match kind_of(b) {
+        ByteKind::Word => true,
+        _ => false,
+    }
+}
+
+// May a comment hold it?
+fn is_comment_byte(b: u8) -> bool
+    ensures { λ r. ⌜ r ≡ isCommentByte b ⌝ }
+{
+    match kind_of(b) {
+        ByteKind::LineEnd | ByteKind::NotAllowed => false,
+        _ => true,
+    }
+}
+
+// Where the longest run of word bytes from `at` on ends.
+fn word_end(text: &[u8], at: usize) -> usize
+    requires { ⌜ at ≤ length (now text) ⌝ }
+    ensures { λ r. ⌜ RunTo isWordByte (now (text .entry)) at r ⌝ }
+{
+    let mut i = at;
+    while i < text.len() {
+        if !is_word_byte(text[i]) {
+            return i;
+        }
+        i += 1;
+    }
+    i
+}
+
+// Where the longest run of bytes of a comment from `at` on ends.
+fn comment_end(text: &[u8], at: usize) -> usize
+    requires { ⌜ at ≤ length (now text) ⌝ }
+    ensures { λ r. ⌜ RunTo isCommentByte (now (text .entry)) at r ⌝ }
+{
+    let mut i = at;
+    while i < text.len() {
+        if !is_comment_byte(text[i]) {
+            return i;
+        }
+        i += 1;
+    }
+    i
+}
+
+// What comes next in an entry.
+pub enum Next {
+    // a word, the bytes from `start` up to `end`, and whether the text goes on inside parentheses
+    Word {
+        start: usize,
+        end: usize,
+        inside: bool,
+    },
+    // no word: the entry ends at a line end, and this offset is the one after it
+    Line(usize),
+    // no word: the entry ends with the text
+    End,
+    // no word, and a fault of the entry's shape
+    Fault,
+}
+
+// What comes next from `at` on, where no comment is open, outside or inside parentheses.
+pub fn next_word(text: &[u8], at: usize, inside: bool) -> Next
+    requires { ⌜ at ≤ length (now text) ⌝ }
+    ensures { λ r. ⌜ NextIs (now (text .entry)) at inside r ⌝ }
+{
+    let mut i = at;
+    let mut within = inside;
+    while i < text.len() {
+        match kind_of(text[i]) {
+            ByteKind::Blank => i += 1,
+            ByteKind::LineEnd => {
+                if !within {
+                    return Next::Line(i + 1);
+                }
+                i += 1;
+            }
+            ByteKind::Opening => {
+                if within {
+                    return Next::Fault;
+                }
+                within = true;
+                i += 1;
+            }
+            ByteKind::Closing => {
+                if !within {
+                    return Next::Fault;
+                }
+                within = false;
+                i += 1;
+            }
+            ByteKind::Semicolon => i = comment_end(text, i + 1),
+            ByteKind::Word => {
+                let end = word_end(text, i);
+                return Next::Word {
+                    start: i,
+                    end: end,
+                    inside: within,
+                };
+            }
+            ByteKind::NotAllowed => return Next::Fault,
+        }
+    }
+    if within {
+        return Next::Fault;
+    }
+    Next::End
+}
