@@ -57,6 +57,22 @@ type-no-class w RecordType.A e = rw e
 type-no-class w RecordType.AAAA e = rw e
 type-no-class w RecordType.DHCID e = rw e
 
+pub type-reads : Reads typeOf (λ w k. EitherCase w (mnemonic k))
+type-reads = record { finds = type-finds; is = type-is }
+
+-- the words after an owner that begin with IN, and that do not
+pub head-class : (w : List ℕ) (ws : List (List ℕ)) → EitherCase w (ascii "IN") → headOf (w ∷ ws) ≡ typed ws
+unfolding headOf
+head-class w ws e = rw (is-word (ascii "IN") w e)
+
+pub head-type : (w : List ℕ) (ws : List (List ℕ)) → (EitherCase w (ascii "IN") → ⊥) → headOf (w ∷ ws) ≡ typed (w ∷ ws)
+unfolding headOf
+head-type w ws never = go (isWord (ascii "IN") w) refl
+  where
+    go : (b : Bool) → isWord (ascii "IN") w ≡ b → typed (cond b ws (w ∷ ws)) ≡ typed (w ∷ ws)
+    go true e = absurd (never (word-is (ascii "IN") w e))
+    go false e = refl
+
 abbrev HeadIs : List (List ℕ) → Headed → Type 0
 HeadIs ws h = Head ws (h .rtype) (h .rest)
 

@@ -1,0 +1,13 @@
+use mathlib.Core.Path.{refl}
+use Rattle.name.specs.Name.{padded}
+use Rattle.text.specs.DhcidReading.{zeroFilled}
+use Rattle.entry.specs.EntryIs.{noRecord}
+use Rattle.entry.proofs.no_record.Statement.{statement}
+use Rattle.entry.proofs.no_record.Tie as tie
+
+returns : tie.Need-returns
+unfolding noRecord padded zeroFilled
+returns c = refl
+
+pub no-record-spec : {M : Type 1} → statement M
+no-record-spec = tie.close (tie.spec returns)

@@ -1,0 +1,69 @@
+-- What the functions that read the head and the data of an entry promise, in the terms of grammar's functions (grammar, proofs/Content.antt), which are
+-- proved to find what its definitions say.
+use Prim.Native.Nat.{ℕ, _≤_}
+use mathlib.Core.Bool.{Bool, true, false, cond}
+use mathlib.Core.Path.{_≡_}
+use mathlib.Core.List.{List, [], _∷_}
+use mathlib.Core.Option.{Option, none, some}
+use lib.Dec.{eqb}
+use lib.ListN.{length, drop}
+use Rattle.text.specs.DhcidReading.{zeroFilled}
+use Rattle.grammar.specs.Listing.{RecordType}
+use Rattle.grammar.proofs.Scan.{plain, scan}
+use Rattle.grammar.proofs.AddressReader.{aOf, aaaaOf}
+use Rattle.grammar.proofs.DhcidReader.{dhcidOf}
+use Rattle.grammar.proofs.Content.{Headed, withRest, onlyWord}
+use Rattle.words.specs.NextIs.{depthOf}
+use Rattle.entry.specs.declared.head.Head.{Head}
+use Rattle.entry.specs.declared.«data».Data.{Data}
+
+-- the record types' numbers: RFC 1035 (A), RFC 3596 (AAAA), RFC 4701 (DHCID)
+abbrev pub number : RecordType → ℕ
+number RecordType.A = 1
+number RecordType.AAAA = 28
+number RecordType.DHCID = 49
+
+-- 0 where there is no type
+abbrev pub typeNumber : Option RecordType → ℕ
+typeNumber none = 0
+typeNumber (some k) = number k
+
+-- the words of the text t from at on, at the depth d, and how the entry ends
+abbrev pub wordsAt : List ℕ → ℕ → Bool → List (List ℕ)
+wordsAt t at d = scan plain (depthOf d) (drop at t) .words
+
+-- of the words from at on, head (grammar's reader of the type, or of class and type) finds the type that r has and the words that follow r; and the entry
+-- ends from there on as it does from at on
+pub record HeadAt (head : List (List ℕ) → Option Headed) (t : List ℕ) (at : ℕ) (d : Bool) (r : Head) : Type 0 where
+  pub from : at ≤ r .at
+  pub within : r .at ≤ length t
+  pub ends : scan plain (depthOf d) (drop at t) .ending ≡ scan plain (depthOf (r .inside)) (drop (r .at) t) .ending
+  pub type : Option RecordType
+  pub is : r .rtype ≡ typeNumber type
+  pub found : head (wordsAt t at d) ≡ withRest (wordsAt t (r .at) (r .inside)) type
+
+-- the data by the number of their type: 49 is a DHCID's, 1 an A's, any other an AAAA's
+abbrev pub addressFor : ℕ → List (List ℕ) → Option (List ℕ)
+addressFor n ws = cond (eqb n 1) (onlyWord aOf ws) (onlyWord aaaaOf ws)
+
+abbrev pub rdataFor : ℕ → List (List ℕ) → Option (List ℕ)
+rdataFor n ws = cond (eqb n 49) (dhcidOf ws) (addressFor n ws)
+
+-- data that may have been found, as `Data` holds them
+abbrev pub Held : Option (List ℕ) → Data → Type 0
+Held none r = (r .found ≡ false) × (r .bytes ≡ zeroFilled [])
+Held (some bs) r = (r .found ≡ true) × (r .bytes ≡ zeroFilled bs)
+
+-- what was found, if no words are left
+abbrev pub ifNone : List (List ℕ) → Option (List ℕ) → Option (List ℕ)
+ifNone [] v = v
+ifNone (w ∷ ws) v = none
+
+-- of the words from at on, rdata finds what r has, unless words follow r; and the entry ends from there on as it does from at on
+pub record DataAt (rdata : List (List ℕ) → Option (List ℕ)) (t : List ℕ) (at : ℕ) (d : Bool) (r : Data) : Type 0 where
+  pub from : at ≤ r .at
+  pub within : r .at ≤ length t
+  pub ends : scan plain (depthOf d) (drop at t) .ending ≡ scan plain (depthOf (r .inside)) (drop (r .at) t) .ending
+  pub value : Option (List ℕ)
+  pub is : Held value r
+  pub found : rdata (wordsAt t at d) ≡ ifNone (wordsAt t (r .at) (r .inside)) value
