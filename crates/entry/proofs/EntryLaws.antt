@@ -30,7 +30,7 @@ use Rattle.entry.specs.declared.Entry.{Entry}
 -- ---- the text from the entry on, by the entry's end
 
 -- no bytes come to no records
-empty : read [] ≡ right []
+pub empty : read [] ≡ right []
 empty = read-step [] ∙ (unfold scan contentOf in refl)
 
 alone-followed : (c : Content) (m : ℕ) → alone c ≡ followed c m (right [])

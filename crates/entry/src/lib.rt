@@ -53,7 +53,8 @@ pub struct Entry {
     pub next: usize,
 }
 
-fn no_record() -> Record
+// The bytes where there is no record: all zeros.
+pub fn no_record() -> Record
     ensures { λ r. ⌜ r ≡ spec.noRecord ⌝ }
 {
     Record {

@@ -1,0 +1,5 @@
+pub mod VerdictLaws
+pub mod CheckLaws
+pub mod StepLaws
+pub mod SpellingLaws
+pub mod Theorems

@@ -1,0 +1,103 @@
+// Reading a listing: entry by entry, each byte looked at a bounded number of times, with one record in hand at most.
+use base::Answer;
+use base::refusal::LISTING_LONG;
+use entry::Content;
+use entry::Record;
+use entry::no_record;
+use entry::read_entry;
+use grammar::LISTING_LIMIT;
+ghost use mathlib.Core.Path.{_≡_};
+ghost use Rattle.grammar.proofs.Reader as reader;
+ghost use Rattle.listing.specs.Reading as spec;
+
+// Checks a listing: how many records it has; or the number and the offset of its refusal.
+pub fn check(text: &[u8]) -> Answer
+    ensures { λ r. ⌜ r ≡ spec.counted (reader.check spec.limit (now (text .entry))) ⌝ }
+{
+    if LISTING_LIMIT < text.len() {
+        return Answer::Refused {
+            number: LISTING_LONG,
+            offset: 0,
+        };
+    }
+    let mut at: usize = 0;
+    let mut count: u32 = 0;
+    while at < text.len() {
+        let entry = read_entry(text, at);
+        let content = entry.content;
+        match content {
+            Content::Nothing => {}
+            Content::Record => count += 1,
+            Content::Fault(number) => {
+                return Answer::Refused {
+                    number: number,
+                    offset: at as u32,
+                };
+            }
+        }
+        at = entry.next;
+    }
+    Answer::Accepted(count)
+}
+
+// What stands next in a listing.
+pub enum Found {
+    Record,
+    End,
+    Refused { number: u32, offset: u32 },
+}
+
+pub struct Step {
+    pub found: Found,
+    // all zeros where no record was found
+    pub record: Record,
+    // from where to go on: after the record; or here again, for the same answer
+    pub next: usize,
+}
+
+// The next record from the offset `at` on, which is 0 or the `next` of a step before; or the end, also past the text; or the refusal.
+pub fn step_at(text: &[u8], at: usize) -> Step
+    ensures { λ r. ⌜ spec.StepIs (now (text .entry)) at r ⌝ }
+{
+    if LISTING_LIMIT < text.len() {
+        return Step {
+            found: Found::Refused {
+                number: LISTING_LONG,
+                offset: 0,
+            },
+            record: no_record(),
+            next: at,
+        };
+    }
+    let mut i = at;
+    while i < text.len() {
+        let entry = read_entry(text, i);
+        let record = entry.record;
+        let content = entry.content;
+        match content {
+            Content::Nothing => i = entry.next,
+            Content::Record => {
+                return Step {
+                    found: Found::Record,
+                    record: record,
+                    next: entry.next,
+                };
+            }
+            Content::Fault(number) => {
+                return Step {
+                    found: Found::Refused {
+                        number: number,
+                        offset: i as u32,
+                    },
+                    record: record,
+                    next: i,
+                };
+            }
+        }
+    }
+    Step {
+        found: Found::End,
+        record: no_record(),
+        next: i,
+    }
+}
