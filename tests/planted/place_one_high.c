@@ -1,0 +1,8 @@
+/* The place is one byte too far. */
+#include "planted.h"
+
+uint64_t planted_check(const uint8_t *text, size_t len)
+{
+    uint64_t answer = right_check(text, len);
+    return vichrelka_refusal(answer) >= VICHRELKA_REFUSED_ENTRY_SHAPE ? answer + 1 : answer;
+}
