@@ -1,0 +1,117 @@
+"""Writes the two listings that bench/listing.c reads, long.txt and short.txt, into the folder given (target/bench by default).
+
+Both are as large as a listing may nearly be, and the same at every run: figures of two days can be compared only over the same bytes.
+  long    180 records whose owners are as long as names get (255 bytes in wire form): the time goes by the byte
+  short   759 records of short names, three to a name: the time goes by the record
+Document 01's grammar decides how they are spelled, so there is no TTL, no relative name and no `::`.
+"""
+import base64
+import hashlib
+import pathlib
+import sys
+
+LIMIT = 65536
+LETTERS = "abcdefghijklmnopqrstuvwxyz0123456789-_"
+
+
+def numbers(seed):
+    """Numbers below 256 without end, the same ones under every version of Python (its module `random` does not promise that)."""
+    count = 0
+    while True:
+        yield from hashlib.sha256(f"{seed} {count}".encode()).digest()
+        count += 1
+
+
+def mixed(word, source):
+    """The word with some of its letters in upper case, since whoever reads it has to fold them."""
+    return "".join(c.upper() if next(source) < 64 else c for c in word)
+
+
+def long_owner(k, source):
+    labels = []
+    for length in (63, 63, 63, 61):
+        label = "".join(LETTERS[next(source) % len(LETTERS)] for _ in range(length))
+        # no hyphen at a label's ends: document 01 allows it, but other readers need not
+        labels.append(f"n{k}" + label[: length - len(f"n{k}") - 1] + "x")
+    name = ".".join(labels) + "."
+    assert len(name) == 254
+    return mixed(name, source)
+
+
+def a(k):
+    return f"192.0.{k // 250}.{k % 250 + 1}"
+
+
+def aaaa(k, source):
+    """Groups of one to four digits, in either case."""
+    groups = ["2001", "db8", "0", f"{k:x}"] + [f"{next(source) * 256 + next(source):x}" for _ in range(4)]
+    return mixed(":".join(groups), source)
+
+
+def dhcid(k, owner):
+    """Two bytes of identifier type, one of digest type, and a digest: 48 characters."""
+    data = bytes([0, k % 3, 1]) + hashlib.sha256(owner.lower().encode()).digest()
+    text = base64.b64encode(data).decode()
+    assert len(text) == 48
+    return text
+
+
+def long_listing():
+    source = numbers("long")
+    lines = []
+    for k in range(180):
+        owner = long_owner(k, source)
+        start = owner + (mixed(" in", source) if k % 3 == 1 else "")
+        if k % 3 == 0:
+            lines.append(f"{start} {mixed('a', source)} {a(k)} ; host {k}, address of the fourth version, kept by the gateway (room {k % 7}, shelf {k % 11})")
+        elif k % 3 == 1:
+            lines.append(f"{start} {mixed('aaaa', source)} {aaaa(k, source)} ; host {k}, address of the sixth version, kept by the gateway; rack {k % 5}")
+        else:
+            text = dhcid(k, owner)
+            # cut after a whole group of four: libzscanner takes no other cut
+            cut = 12 + 4 * (k % 7)
+            lines.append(f"{start} {mixed('dhcid', source)} ( {text[:cut]} ; who holds host {k}, the first\n    {text[cut:]} ) ; and the rest of it")
+    return lines, 180
+
+
+def short_listing():
+    source = numbers("short")
+    lines = []
+    for k in range(253):
+        owner = f"n{k}.example.com."
+        name = mixed(owner, source) if k % 4 == 0 else owner
+        # some with blanks up to a column, some with tabs, some with single blanks, as people write them
+        owner_field = (name.ljust(24), name + "\t\t", name + " ")[k % 3]
+        in_field = ("IN      ", "", "in ")[k % 3]
+        place = f"; host {k}, room {k % 7}, shelf {k % 11}"
+        lines.append(f"{owner_field}{in_field}A{(' ' * 7, chr(9), ' ')[k % 3]}{a(k)} {place}")
+        lines.append(f"{owner_field}{in_field}{'AAAA' if k % 2 else 'aaaa'} {aaaa(k, source)} {place}")
+        text = dhcid(k, owner)
+        if k % 5 == 0:
+            lines.append(f"{owner_field}{in_field}DHCID ( {text[:24]}\n    {text[24:]} ) ; client {k}, type {k % 3}")
+        else:
+            lines.append(f"{owner_field}{in_field}{'DHCID' if k % 2 else 'dhcid'} {text} ; client {k}, type {k % 3}")
+    return lines, 759
+
+
+def write(folder, name, listing, size):
+    """Writes a listing, filled up to the size with a comment of its own at the end."""
+    lines, records = listing
+    text = "\n".join(lines) + "\n"
+    missing = size - len(text)
+    print(f"{name}: {records} records, {len(text)} bytes and {missing} more of comment at the end")
+    assert 2 <= missing <= 400 and size < LIMIT, missing
+    text += ";" + "." * (missing - 2) + "\n"
+    data = text.encode("ascii")
+    assert len(data) == size
+    (folder / f"{name}.txt").write_bytes(data)
+
+
+def main():
+    folder = pathlib.Path(sys.argv[1] if len(sys.argv) > 1 else "target/bench")
+    folder.mkdir(parents=True, exist_ok=True)
+    write(folder, "long", long_listing(), 65490)
+    write(folder, "short", short_listing(), 65468)
+
+
+main()
