@@ -1,7 +1,9 @@
 -- Laws on tests, true or false. Assumes nothing.
-use Prim.Native.Nat.{ℕ, _≤_, _<_}
+use Prim.Native.Nat.{ℕ, zero, suc, _≤_, _<_}
 use mathlib.Core.Bool.{Bool, true, false, _&&_, and-false, true≢false, false≢true}
-use mathlib.Core.Path.{_≡_, refl, ap, _∙_}
+use mathlib.Core.Path.{_≡_, refl, sym, ap, subst, _∙_}
+use mathlib.Core.Logic.{⊎-elim}
+use native.Mathlib.Nat.{eq-or-lt-of-le, le-of-suc-le-suc, not-suc-le-zero}
 use lib.Dec.{leb}
 use borrow.Author.Tests.{le-leb, lt-leb}
 use Rattle.base.specs.Logic.{Decides}
@@ -35,3 +37,16 @@ yes-by p = record { if-true = λ t. p; if-false = λ f. absurd (true≢false f) 
 
 pub no-by : {P : Type 0} → (P → ⊥) → Decides false P
 no-by h = record { if-true = λ t. absurd (false≢true t); if-false = λ f. h }
+
+-- ---- every number below another
+
+-- a test passes at every number below n: by computing, for a law on so many cases
+unfoldable pub below : (ℕ → Bool) → ℕ → Bool
+below p zero = true
+below p (suc n) = p n && below p n
+
+pub at-each : (p : ℕ → Bool) (n : ℕ) → below p n ≡ true → (v : ℕ) → v < n → p v ≡ true
+unfolding below
+at-each p zero h v l = absurd (not-suc-le-zero l)
+at-each p (suc n) h v l =
+    ⊎-elim (λ e. subst (λ (k : ℕ). p k ≡ true) (sym e) (and-left (p n) (below p n) h)) (λ k. at-each p n (and-right (p n) (below p n) h) v k) (eq-or-lt-of-le (le-of-suc-le-suc l))

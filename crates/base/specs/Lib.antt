@@ -3,3 +3,4 @@ pub mod Refusal
 pub mod Answer
 pub mod Dhcid
 pub mod Bytes
+pub mod Ascii

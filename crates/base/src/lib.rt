@@ -1,4 +1,5 @@
 // What every other crate stands on: the answer of a call, the refusal numbers, the test of a DHCID and the copy of bytes.
+pub mod ascii;
 pub mod dhcid;
 pub mod number;
 pub mod refusal;

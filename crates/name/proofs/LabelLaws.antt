@@ -6,9 +6,11 @@ use mathlib.Core.List.{List, map}
 use native.Mathlib.Omega.{arith}
 use lib.Dec.{leb, eqb}
 use lib.ListN.{length, length-map}
-use borrow.Author.Tests.{leb-true}
+use borrow.Author.Tests.{leb-true, ne-eqb}
+use Rattle.base.specs.Ascii.{isIn}
 use Rattle.base.proofs.Lists.{every-map}
-use Rattle.base.proofs.Tests.{and-left, and-right, within, under, over}
+use Rattle.base.proofs.SetLaws.{same, set-of}
+use Rattle.base.proofs.Tests.{and-left, and-right, below, within, under, over}
 use Rattle.name.specs.Label.{isUpper, isLower, isDigit, isLabelByte, Label, lower}
 
 -- a byte's class, from the five tests
@@ -68,3 +70,17 @@ pub label-lower : (l : List ℕ) → Label l → Label (map lower l)
 label-lower l h =
     let long : length (map lower l) ≡ length l = length-map l lower in
     record { some = omega (arith, h .some); short = omega (arith, h .short); bytes = every-map lower label-byte-lower l (h .bytes) }
+
+-- ---- the bytes of labels as a set
+
+each-below : below (λ b. same (isIn 0x3ff200000000000 0x7fffffe87fffffe b) (isLabelByte b)) 128 ≡ true
+unfolding below isIn isLabelByte isUpper isLower isDigit
+each-below = refl
+
+none-above : (b : ℕ) → 128 ≤ b → isLabelByte b ≡ false
+unfolding isUpper isLower isDigit
+none-above b h =
+    label-byte b (over 65 b 90 (omega arith)) (over 97 b 122 (omega arith)) (over 48 b 57 (omega arith)) (ne-eqb b 45 (λ e. omega arith)) (ne-eqb b 95 (λ e. omega arith))
+
+pub label-set : (b : ℕ) → isIn 0x3ff200000000000 0x7fffffe87fffffe b ≡ isLabelByte b
+label-set b = set-of 0x3ff200000000000 0x7fffffe87fffffe isLabelByte each-below none-above b

@@ -1,15 +1,18 @@
 // One byte of a label.
+use base::ascii::is_in;
 ghost use mathlib.Core.Path.{_≡_};
 ghost use Rattle.name.specs.Label as spec;
+
+// The bytes of labels as a set: hyphen and digits; letters and underscore.
+const LABEL_LOW: u64 = 0x3ff200000000000;
+
+const LABEL_HIGH: u64 = 0x7fffffe87fffffe;
 
 // A letter, a digit, a hyphen or an underscore.
 pub fn is_label_byte(b: u8) -> bool
     ensures { λ r. ⌜ r ≡ spec.isLabelByte b ⌝ }
 {
-    match b {
-        b'A'..=b'Z' | b'a'..=b'z' | b'0'..=b'9' | b'-' | b'_' => true,
-        _ => false,
-    }
+    is_in(LABEL_LOW, LABEL_HIGH, b)
 }
 
 // RFC 4034, section 6.2: A to Z become a to z.

@@ -1,10 +1,8 @@
 -- Laws of base64: digits and their values, groups, and the shape of 35 bytes' text. Assumes nothing.
-use Prim.Native.Nat.{ℕ, zero, suc, _+_, _-_, _*_, _/_, _%_, _≤_, _<_}
+use Prim.Native.Nat.{ℕ, suc, _+_, _-_, _*_, _/_, _%_, _≤_, _<_}
 use mathlib.Core.Bool.{Bool, true, false, cond, _&&_}
 use mathlib.Core.Path.{_≡_, refl, sym, ap, subst, _∙_}
-use mathlib.Core.Logic.{⊎-elim}
 use mathlib.Core.List.{List, [], _∷_, _++_, head-eq-of-cons-eq, tail-eq-of-cons-eq}
-use native.Mathlib.Nat.{eq-or-lt-of-le, le-of-suc-le-suc, not-suc-le-zero}
 use native.Mathlib.Numerals.{add-one}
 use native.Mathlib.Omega.{arith}
 use lib.Dec.{leb, ltb, eqb}
@@ -14,27 +12,17 @@ use borrow.Author.Tests.{eqb-true, ne-eqb, lt-ltb, ltb-true, ltb-false}
 use Rattle.base.specs.Bytes.{overlay}
 use Rattle.base.specs.Logic.{Every}
 use Rattle.base.proofs.Bytes.{overlay-append}
-use Rattle.base.proofs.Tests.{and-left, and-right, over}
+use Rattle.base.proofs.Tests.{below, at-each, over}
 use Rattle.text.specs.Dhcid.{digit64, base64}
 use Rattle.text.specs.DhcidReading.{value64, group}
 
 -- ---- digits and their values
 
--- a test that passes at every number below n, by computing
-abbrev all-below : (ℕ → Bool) → ℕ → Bool
-all-below p zero = true
-all-below p (suc n) = p n && all-below p n
-
-at-each : (p : ℕ → Bool) (n : ℕ) → all-below p n ≡ true → (v : ℕ) → v < n → p v ≡ true
-at-each p zero h v l = absurd (not-suc-le-zero l)
-at-each p (suc n) h v l =
-    ⊎-elim (λ e. subst (λ (k : ℕ). p k ≡ true) (sym e) (and-left (p n) (all-below p n) h)) (λ k. at-each p n (and-right (p n) (all-below p n) h) v k) (eq-or-lt-of-le (le-of-suc-le-suc l))
-
 read-back : ℕ → Bool
 read-back v = eqb (value64 (digit64 v)) v
 
-all-read-back : all-below read-back 64 ≡ true
-unfolding read-back digit64 value64
+all-read-back : below read-back 64 ≡ true
+unfolding below read-back digit64 value64
 all-read-back = refl
 
 pub value-digit : (v : ℕ) → v < 64 → value64 (digit64 v) ≡ v
@@ -45,8 +33,8 @@ value-digit v l = eqb-true (value64 (digit64 v)) v (at-each read-back 64 all-rea
 written-back : ℕ → Bool
 written-back c = cond (ltb (value64 c) 64) (eqb (digit64 (value64 c)) c) true
 
-all-written-back : all-below written-back 128 ≡ true
-unfolding written-back digit64 value64
+all-written-back : below written-back 128 ≡ true
+unfolding below written-back digit64 value64
 all-written-back = refl
 
 -- a byte's value, from the five tests

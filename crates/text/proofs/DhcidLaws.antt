@@ -3,12 +3,13 @@ use Prim.Native.Nat.{ℕ, suc, _+_, _-_, _*_, _/_, _%_, _≤_, _<_}
 use mathlib.Core.Path.{_≡_, refl, sym, ap, ap₂, subst, _∙_}
 use mathlib.Core.List.{List, [], _∷_, _++_, append-assoc, append-nil}
 use native.Mathlib.Omega.{arith}
-use lib.ListN.{length, getD, set, replicate, length-append, List·getD-append}
+use lib.ListN.{length, getD, set, replicate, length-append, List·getD-append, take}
 use lib.Seq.{append-snoc, set-append-seam, getD-append-seam, getD-append-add, getD-at}
 use Rattle.base.specs.Logic.{Every}
 use Rattle.text.specs.Dhcid.{digit64, base64}
-use Rattle.text.specs.DhcidReading.{value64, zeroFilled, Fresh, Quantum, Begun64, Done64, Refused64, Text64}
+use Rattle.text.specs.DhcidReading.{value64, zeroFilled, Quantum, Begun64, Done64, Refused64, Text64}
 use Rattle.text.specs.declared.dhcid.DhcidWords.{DhcidWords}
+use Rattle.text.proofs.HexLaws.{take-one}
 use Rattle.text.proofs.Base64Laws.{value-digit, digit-value, same-digit, base64-on, length-whole, Shape, shape, by-ltb}
 use Rattle.base.proofs.Lists.{every-append, every-at}
 
@@ -225,9 +226,9 @@ module _ (cs : List ℕ) (b : ℕ) (s : DhcidWords) where
   at-last r f n step (Text64.done h) = absurd (omega (arith, h .count))
   at-last r f n step (Text64.refused h) = absurd (omega (arith, h .form))
 
-  module _ (r : DhcidWords) (fresh : Fresh 4 r) (f : s .form ≡ 1) where
+  module _ (r : DhcidWords) (over : r .form ≡ 4) (f : s .form ≡ 1) where
     refuse : ((ds bs : List ℕ) → Every (λ x. x < 256) bs → length bs ≡ 35 → cs ++ b ∷ [] ++ ds ≡ base64 bs → ⊥) → Text64 (cs ++ b ∷ []) r
-    refuse none = Text64.refused (record { form = fresh .form; none = none })
+    refuse none = Text64.refused (record { form = over; none = none })
 
     pub too-many : 47 < s .count → Text64 cs s → Text64 (cs ++ b ∷ []) r
     too-many n (Text64.begun h) = absurd (omega (arith, h .more))
@@ -299,3 +300,8 @@ module _ (cs : List ℕ) (b : ℕ) (s r : DhcidWords) (h : Begun64 cs s) (n : s 
 
   pub last-pad : Text64 (cs ++ b ∷ []) r
   last-pad = Text64.done (finished (h .group))
+
+-- ---- the characters of a word, one after the other
+
+pub one-character-more : (cs w : List ℕ) (i : ℕ) {s : DhcidWords} → i < length w → Text64 (cs ++ take i w ++ getD w i 0 ∷ []) s → Text64 (cs ++ take (i + 1) w) s
+one-character-more cs w i {s} lt t = subst (λ (l : List ℕ). Text64 l s) (take-one cs w i lt) t

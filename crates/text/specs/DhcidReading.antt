@@ -9,6 +9,7 @@ use Rattle.base.specs.Logic.{Every, Pairwise}
 use Rattle.text.specs.Dhcid.{digit64, base64, joined, HexByte, SpellsDhcid}
 use Rattle.text.specs.declared.dhcid.DhcidWords.{DhcidWords}
 use Rattle.text.specs.declared.dhcid.ReadDhcid.{ReadDhcid}
+use Rattle.text.specs.declared.dhcid.Sextets.{Sextets}
 
 -- ---- what the reader answers
 
@@ -34,6 +35,13 @@ group a b c fourth = digit64 (a / 4) ∷ digit64 (a % 4 * 16 + b / 16) ∷ digit
 -- the 35 bytes of a state: those that were read, and zeros
 unfoldable pub zeroFilled : List ℕ → List ℕ
 zeroFilled bs = bs ++ replicate (35 - length bs) 0
+
+-- a state by its parts; and by those that base64 keeps apart from its bytes
+abbrev pub stateOf : ℕ → ℕ → ℕ → List ℕ → DhcidWords
+stateOf form count pending bytes = record { form = form; count = count; pending = pending; bytes = bytes }
+
+abbrev pub withBytes : Sextets → List ℕ → DhcidWords
+withBytes s bytes = stateOf (s .form) (s .count) (s .pending) bytes
 
 -- a state in which no character of its form was read
 pub record Fresh (f : ℕ) (s : DhcidWords) : Type 0 where

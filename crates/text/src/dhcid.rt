@@ -47,14 +47,24 @@ const PAD: u8 = 61;
 fn value64(b: u8) -> u8
     ensures { λ r. ⌜ r ≡ reading.value64 b ⌝ }
 {
-    match b {
-        b'A'..=b'Z' => b - 65,
-        b'a'..=b'z' => b - 71,
-        b'0'..=b'9' => b + 4,
-        b'+' => 62,
-        b'/' => 63,
-        _ => 64,
+    // each test on its own, so that they become moves and not branches: which digit comes next cannot be foreseen
+    let mut value: u8 = 64;
+    if b == b'/' {
+        value = 63;
     }
+    if b == b'+' {
+        value = 62;
+    }
+    if (b'0' <= b) & (b <= b'9') {
+        value = b + 4;
+    }
+    if (b'a' <= b) & (b <= b'z') {
+        value = b - 71;
+    }
+    if (b'A' <= b) & (b <= b'Z') {
+        value = b - 65;
+    }
+    value
 }
 
 // The base64 digit of a number below 64.
@@ -113,75 +123,68 @@ fn fresh(form: u8) -> DhcidWords
     }
 }
 
-// The state after a base64 digit of value `v`, which is not the last character.
-fn sextet(s: DhcidWords, v: u8) -> DhcidWords
-    requires { ⌜ (v < 64) × (s .count < 47) ⌝ }
-    ensures { λ r. ⌜ ((cs : List ℕ) → reading.Begun64 cs s → reading.Begun64 (cs ++ spec.digit64 v ∷ []) r) ⌝ }
+// How far base64 has come, but for its bytes, which are written where they stand: the whole state would be copied for each character.
+struct Sextets {
+    form: u8,
+    count: u8,
+    pending: u8,
+}
+
+fn no_sextets() -> Sextets
+    ensures { λ r. ⌜ r .form ≡ 4 ⌝ }
 {
-    let count = s.count;
-    let pending = s.pending;
-    let mut bytes = s.bytes;
+    Sextets {
+        form: REFUSED,
+        count: 0,
+        pending: 0,
+    }
+}
+
+// Takes a base64 digit of value `v`, which is not the last character: the bits that then wait for the rest of their byte.
+fn sextet(bytes: &mut [u8], count: u8, pending: u8, v: u8) -> u8
+    requires { ⌜ (v < 64) × (count < 47) × (length (now bytes) ≡ 35) ⌝ }
+    ensures { λ r. ⌜ ((cs : List ℕ) → reading.Begun64 cs (reading.stateOf 1 count pending (now (bytes .entry))) → reading.Begun64 (cs ++ spec.digit64 v ∷ []) (reading.stateOf 1 (count + 1) r (now (bytes .exit)))) ⌝ }
+{
     let at = (count / 4 * 3) as usize;
     match count % 4 {
-        0 => DhcidWords {
-            form: BASE64,
-            count: count + 1,
-            pending: v,
-            bytes: bytes,
-        },
+        0 => v,
         1 => {
             bytes[at] = pending % 64 * 4 + v / 16;
-            DhcidWords {
-                form: BASE64,
-                count: count + 1,
-                pending: v % 16,
-                bytes: bytes,
-            }
+            v % 16
         },
         2 => {
             bytes[at + 1] = pending % 16 * 16 + v / 4;
-            DhcidWords {
-                form: BASE64,
-                count: count + 1,
-                pending: v % 4,
-                bytes: bytes,
-            }
+            v % 4
         },
         _ => {
             bytes[at + 2] = pending % 4 * 64 + v;
-            DhcidWords {
-                form: BASE64,
-                count: count + 1,
-                pending: 0,
-                bytes: bytes,
-            }
+            0
         },
     }
 }
 
-// The state after the 48th character, which must be = and leave no bits that are set.
-fn last_character(s: DhcidWords, b: u8) -> DhcidWords
+// After the 48th character, which must be = and leave no bits that are set.
+fn last_character(s: Sextets, b: u8) -> Sextets
     requires { ⌜ s .count ≡ 47 ⌝ }
-    ensures { λ r. ⌜ ((cs : List ℕ) → reading.Begun64 cs s → reading.Text64 (cs ++ b ∷ []) r) ⌝ }
+    ensures { λ r. ⌜ ((cs bytes : List ℕ) → reading.Begun64 cs (reading.withBytes s bytes) → reading.Text64 (cs ++ b ∷ []) (reading.withBytes r bytes)) ⌝ }
 {
     if b != PAD {
-        return fresh(REFUSED);
+        return no_sextets();
     }
     if s.pending != 0 {
-        return fresh(REFUSED);
+        return no_sextets();
     }
-    let bytes = s.bytes;
-    DhcidWords {
+    Sextets {
         form: BASE64,
         count: 48,
         pending: 0,
-        bytes: bytes,
     }
 }
 
-// The state after one character of base64.
-fn base64_character(s: DhcidWords, b: u8) -> DhcidWords
-    ensures { λ r. ⌜ ((cs : List ℕ) → reading.Text64 cs s → reading.Text64 (cs ++ b ∷ []) r) ⌝ }
+// After one character of base64.
+fn base64_character(bytes: &mut [u8], s: Sextets, b: u8) -> Sextets
+    requires { ⌜ length (now bytes) ≡ 35 ⌝ }
+    ensures { λ r. ⌜ ((cs : List ℕ) → reading.Text64 cs (reading.withBytes s (now (bytes .entry))) → reading.Text64 (cs ++ b ∷ []) (reading.withBytes r (now (bytes .exit)))) ⌝ }
 {
     let count = s.count;
     if s.form != BASE64 {
@@ -191,27 +194,42 @@ fn base64_character(s: DhcidWords, b: u8) -> DhcidWords
         return last_character(s, b);
     }
     if 47 < count {
-        return fresh(REFUSED);
+        return no_sextets();
     }
     let v = value64(b);
     if 63 < v {
-        return fresh(REFUSED);
+        return no_sextets();
     }
-    sextet(s, v)
+    let pending = sextet(bytes, count, s.pending, v);
+    Sextets {
+        form: BASE64,
+        count: count + 1,
+        pending: pending,
+    }
 }
 
 // The state after the characters of a word of base64.
 fn base64_word(s: DhcidWords, word: &[u8]) -> DhcidWords
     ensures { λ r. ⌜ ((cs : List ℕ) → reading.Text64 cs s → reading.Text64 (cs ++ now (word .entry)) r) ⌝ }
 {
-    let mut state = s;
+    let mut bytes = s.bytes;
+    let mut sextets = Sextets {
+        form: s.form,
+        count: s.count,
+        pending: s.pending,
+    };
     let mut i: usize = 0;
     while i < word.len() {
-        let next = base64_character(state, word[i]);
-        state = next;
+        let next = base64_character(&mut bytes, sextets, word[i]);
+        sextets = next;
         i += 1;
     }
-    state
+    DhcidWords {
+        form: sextets.form,
+        count: sextets.count,
+        pending: sextets.pending,
+        bytes: bytes,
+    }
 }
 
 // The state after two hexadecimal digits, which are a byte.

@@ -1,5 +1,6 @@
 // The words of a listing's entry, one at a time, and how the entry ends. A loop passes one piece at each turn, and the runs of a word and of a
 // comment are loops of their own, so each byte is looked at twice at most.
+use base::ascii::is_in;
 ghost use mathlib.Core.Path.{_≡_};
 ghost use Prim.Native.Nat.{_≤_};
 ghost use lib.ListN.{length};
@@ -31,23 +32,22 @@ pub fn kind_of(b: u8) -> ByteKind
     }
 }
 
+// The bytes of words as a set, 33 to 126 but for ( ) and ;
+const WORD_LOW: u64 = 0xf7fffcfe00000000;
+
+const WORD_HIGH: u64 = 0x7fffffffffffffff;
+
 pub fn is_word_byte(b: u8) -> bool
     ensures { λ r. ⌜ r ≡ isWordByte b ⌝ }
 {
-    match kind_of(b) {
-        ByteKind::Word => true,
-        _ => false,
-    }
+    is_in(WORD_LOW, WORD_HIGH, b)
 }
 
 // May a comment hold it?
 fn is_comment_byte(b: u8) -> bool
     ensures { λ r. ⌜ r ≡ isCommentByte b ⌝ }
 {
-    match kind_of(b) {
-        ByteKind::LineEnd | ByteKind::NotAllowed => false,
-        _ => true,
-    }
+    ((32 <= b) & (b <= 126)) | (b == b'\t')
 }
 
 // Where the longest run of word bytes from `at` on ends.
@@ -138,8 +138,8 @@ pub fn next_word(text: &[u8], at: usize, inside: bool) -> Next
             ByteKind::NotAllowed => return Next::Fault,
         }
     }
-    if within {
-        return Next::Fault;
+    if !within {
+        return Next::End;
     }
-    Next::End
+    Next::Fault
 }

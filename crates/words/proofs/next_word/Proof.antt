@@ -186,14 +186,14 @@ returns-6 c =
     let l = c .before .before in
     let t = l .before .before .args .text .now in
     let i = l .loop .i in
-    l .loop .inv .same ∙ ap (λ (b : Bool). scan plain (depthOf b) (drop i t)) (c .if4 .taken) ∙ at-text-end t i inside (omega arith)
+    l .loop .inv .same ∙ ap (λ (b : Bool). scan plain (depthOf b) (drop i t)) (not-true (l .loop .within) (c .if4 .taken)) ∙ at-text-end t i outside (omega arith)
 
 returns-7 : tie.Need-returns-7 Inv-loop μ-loop
 returns-7 c =
     let l = c .before .before in
     let t = l .before .before .args .text .now in
     let i = l .loop .i in
-    l .loop .inv .same ∙ ap (λ (b : Bool). scan plain (depthOf b) (drop i t)) (c .if4 .left) ∙ at-text-end t i outside (omega arith)
+    l .loop .inv .same ∙ ap (λ (b : Bool). scan plain (depthOf b) (drop i t)) (not-false (l .loop .within) (c .if4 .left)) ∙ at-text-end t i inside (omega arith)
 
 pub next-word-spec : {M : Type 1} → statement M
 next-word-spec =

@@ -1,74 +1,65 @@
-use mathlib.Core.Path.{sym, ap}
+use Prim.Native.Nat.{ℕ, _+_, _-_, _≤_}
+use mathlib.Core.Bool.{Bool, cond, _&&_}
+use mathlib.Core.Path.{_≡_, sym, ap, _∙_}
+use mathlib.Core.Logic.{⊎-elim}
 use native.Mathlib.Omega.{arith}
-use borrow.Author.Tests.{ne-eqb}
+use lib.Dec.{leb, eqb}
+use borrow.Author.Tests.{eq-eqb, ne-eqb, leb-true}
+use Rattle.base.proofs.Tests.{and-left, and-right}
 use Rattle.text.specs.DhcidReading.{value64}
-use Rattle.base.proofs.Tests.{within, under, over}
-use Rattle.text.proofs.Base64Laws.{value-of}
-use borrow.Author.Needs.{needs}
 use Rattle.text.proofs.dhcid.value64.Statement.{statement}
 use Rattle.text.proofs.dhcid.value64.Tie as tie
 
-add-result : tie.Need-add-result
-add-result c = search needs
+add-value : tie.Need-add-value
+add-value c =
+    let b = c .before .before .before .args .b in
+    let small : b ≤ 57 = leb-true b 57 (and-right (leb 48 b) (leb b 57) (c .if3 .taken)) in omega arith
 
-sub-result : tie.Need-sub-result
-sub-result c = search needs
+sub-value : tie.Need-sub-value
+sub-value c =
+    let b = c .before .before .before .before .args .b in
+    let large : 97 ≤ b = leb-true 97 b (and-left (leb 97 b) (leb b 122) (c .if4 .taken)) in omega arith
+
+sub-value-2 : tie.Need-sub-value-2
+sub-value-2 c =
+    let b = c .before .before .before .before .before .args .b in
+    leb-true 65 b (and-left (leb 65 b) (leb b 90) (c .if5 .taken))
 
 returns : tie.Need-returns
 unfolding value64
-returns c = sym (ap value64 (c .match .keys1))
+returns c =
+    let b = c .before .before .before .before .before .args .b in
+    let others : ℕ = cond (leb 97 b && leb b 122) (b - 71) (cond (leb 48 b && leb b 57) (b + 4) (cond (eqb b 43) 62 (cond (eqb b 47) 63 64))) in
+    sym (ap (λ (t : Bool). cond t (b - 65) others) (c .if5 .taken))
 
+-- each test leaves what the definition has from there on
 returns-2 : tie.Need-returns-2
 unfolding value64
-returns-2 c = sym (ap value64 (c .match .keys2))
-
-returns-3 : tie.Need-returns-3
-returns-3 c =
-    let b = c .before .before .before .args .b in
-    sym (value-of b (under 65 b 90 (omega arith)) (under 97 b 122 (omega arith)) (within 48 b 57 (omega arith) (omega arith)) (ne-eqb b 43 (λ e. c .before .before .match .rest .0 .1 e)) (ne-eqb b 47 (λ e. c .before .before .match .rest .1 e)))
-
-returns-4 : tie.Need-returns-4
-returns-4 c =
+returns-2 c =
     let b = c .before .before .before .before .before .args .b in
-    sym (value-of b (within 65 b 90 (omega arith) (omega arith)) (under 97 b 122 (omega arith)) (over 48 b 57 (omega arith)) (ne-eqb b 43 (λ e. c .before .before .before .before .match .rest .0 .1 e)) (ne-eqb b 47 (λ e. c .before .before .before .before .match .rest .1 e)))
-
-returns-5 : tie.Need-returns-5
-returns-5 c =
-    let b = c .before .before .before .before .before .before .before .args .b in
-    sym (value-of b (over 65 b 90 (omega arith)) (within 97 b 122 (omega arith) (omega arith)) (over 48 b 57 (omega arith)) (ne-eqb b 43 (λ e. c .before .before .before .before .before .before .match .rest .0 .1 e)) (ne-eqb b 47 (λ e. c .before .before .before .before .before .before .match .rest .1 e)))
-
-returns-6 : tie.Need-returns-6
-returns-6 c =
-    let b = c .before .before .args .b in
-    sym (value-of b (under 65 b 90 (omega arith)) (under 97 b 122 (omega arith)) (under 48 b 57 (omega arith)) (ne-eqb b 43 (λ e. c .before .match .rest .0 .1 e)) (ne-eqb b 47 (λ e. c .before .match .rest .1 e)))
-
-returns-7 : tie.Need-returns-7
-returns-7 c =
-    let b = c .before .before .before .before .args .b in
-    sym (value-of b (under 65 b 90 (omega arith)) (under 97 b 122 (omega arith)) (over 48 b 57 (omega arith)) (ne-eqb b 43 (λ e. c .before .before .before .match .rest .0 .1 e)) (ne-eqb b 47 (λ e. c .before .before .before .match .rest .1 e)))
-
-returns-8 : tie.Need-returns-8
-returns-8 c =
-    let b = c .before .before .before .before .before .before .args .b in
-    sym (value-of b (over 65 b 90 (omega arith)) (under 97 b 122 (omega arith)) (over 48 b 57 (omega arith)) (ne-eqb b 43 (λ e. c .before .before .before .before .before .match .rest .0 .1 e)) (ne-eqb b 47 (λ e. c .before .before .before .before .before .match .rest .1 e)))
-
-returns-9 : tie.Need-returns-9
-returns-9 c =
-    let b = c .before .before .before .before .before .before .before .args .b in
-    sym (value-of b (over 65 b 90 (omega arith)) (over 97 b 122 (omega arith)) (over 48 b 57 (omega arith)) (ne-eqb b 43 (λ e. c .before .before .before .before .before .before .match .rest .0 .1 e)) (ne-eqb b 47 (λ e. c .before .before .before .before .before .before .match .rest .1 e)))
+    let slash : c .before .before .before .before .if1 .value ≡ cond (eqb b 47) 63 64 =
+    ⊎-elim
+    (λ w. w .1 ∙ sym (ap (λ (t : Bool). cond {A = ℕ} t 63 64) (eq-eqb b 47 (w .0 .taken))))
+    (λ w. w .1 ∙ sym (ap (λ (t : Bool). cond {A = ℕ} t 63 64) (ne-eqb b 47 (w .0 .left))))
+    (c .before .before .before .before .if1 .came) in
+    let plus : c .before .before .before .if2 .value ≡ cond (eqb b 43) 62 (cond (eqb b 47) 63 64) =
+    ⊎-elim
+    (λ w. w .1 ∙ sym (ap (λ (t : Bool). cond t 62 (cond (eqb b 47) 63 64)) (eq-eqb b 43 (w .0 .taken))))
+    (λ w. w .1 ∙ slash ∙ sym (ap (λ (t : Bool). cond t 62 (cond (eqb b 47) 63 64)) (ne-eqb b 43 (w .0 .left))))
+    (c .before .before .before .if2 .came) in
+    let rest : ℕ = cond (eqb b 43) 62 (cond (eqb b 47) 63 64) in
+    let digit : c .before .before .if3 .value ≡ cond (leb 48 b && leb b 57) (b + 4) rest =
+    ⊎-elim
+    (λ w. w .1 ∙ sym (ap (λ (t : Bool). cond t (b + 4) rest) (w .0 .taken)))
+    (λ w. w .1 ∙ plus ∙ sym (ap (λ (t : Bool). cond t (b + 4) rest) (w .0 .left)))
+    (c .before .before .if3 .came) in
+    let more : ℕ = cond (leb 48 b && leb b 57) (b + 4) rest in
+    let letter : c .before .if4 .value ≡ cond (leb 97 b && leb b 122) (b - 71) more =
+    ⊎-elim
+    (λ w. w .1 ∙ sym (ap (λ (t : Bool). cond t (b - 71) more) (w .0 .taken)))
+    (λ w. w .1 ∙ digit ∙ sym (ap (λ (t : Bool). cond t (b - 71) more) (w .0 .left)))
+    (c .before .if4 .came) in
+    letter ∙ sym (ap (λ (t : Bool). cond t (b - 65) (cond (leb 97 b && leb b 122) (b - 71) more)) (c .if5 .left))
 
 pub value64-spec : {M : Type 1} → statement M
-value64-spec =
-    tie.close
-    (tie.spec
-    add-result
-    sub-result
-    returns
-    returns-2
-    returns-3
-    returns-4
-    returns-5
-    returns-6
-    returns-7
-    returns-8
-    returns-9)
+value64-spec = tie.close (tie.spec add-value sub-value sub-value-2 returns returns-2)
