@@ -6,7 +6,6 @@ use base::refusal::ENTRY_DATA;
 use base::refusal::ENTRY_OWNER;
 use base::refusal::ENTRY_SHAPE;
 use base::refusal::ENTRY_TYPE;
-use name::WireName;
 use name::text::from_text;
 use words::Next;
 use words::is_word_byte;
@@ -155,10 +154,10 @@ fn with_words(text: &[u8], at: usize, start: usize, end: usize, inside: bool) ->
             ..
         } => faulty(text, after, within, ENTRY_DATA),
         Next::Fault => fault(ENTRY_SHAPE, text.len()),
-        Next::Line(next) => Entry {
+        Next::Line(following) => Entry {
             content: Content::Record,
             record: record,
-            next: next,
+            next: following,
         },
         Next::End => Entry {
             content: Content::Record,

@@ -24,6 +24,7 @@ pub fn check(text: &[u8]) -> Answer
     let mut count: u32 = 0;
     while at < text.len() {
         let entry = read_entry(text, at);
+        let next = entry.next;
         let content = entry.content;
         match content {
             Content::Nothing => {}
@@ -35,7 +36,7 @@ pub fn check(text: &[u8]) -> Answer
                 };
             }
         }
-        at = entry.next;
+        at = next;
     }
     Answer::Accepted(count)
 }
@@ -73,14 +74,15 @@ pub fn step_at(text: &[u8], at: usize) -> Step
     while i < text.len() {
         let entry = read_entry(text, i);
         let record = entry.record;
+        let next = entry.next;
         let content = entry.content;
         match content {
-            Content::Nothing => i = entry.next,
+            Content::Nothing => i = next,
             Content::Record => {
                 return Step {
                     found: Found::Record,
                     record: record,
-                    next: entry.next,
+                    next: next,
                 };
             }
             Content::Fault(number) => {

@@ -104,8 +104,8 @@ enum-told c = search needs
 fault-requires : tie.Need-fault-requires
 fault-requires c κs = search needs
 
-enum-known-next : tie.Need-enum-known-next
-enum-known-next c = search needs
+enum-known-following : tie.Need-enum-known-following
+enum-known-following c = search needs
 
 enum-told-2 : tie.Need-enum-told-2
 enum-told-2 c = search needs
@@ -147,7 +147,7 @@ returns-7 c =
     let h = c .before .before .before .before .before .before .before .before .before .before .before .read in
     let r = c .before .before .before .before .before .before .before .before .read2 in
     let x = c .before .before .before .next-word in
-    good-to-line t (a .at) (a .start) (a .end) (a .inside) w (n .0) first (n .1) (h .result) (h .ensures) (c .before .before .before .before .before .before .before .before .before .if3 .left) (r .result) (r .ensures) (o .result .bytes) (r .result .bytes) (o .result .len) (n .2) (n .3) (not-false (r .result .found) (c .before .before .before .before .before .before .if4 .left)) refl _ (line-is t (r .result .at) (r .result .inside) (x .result) (x .ensures) (c .before .next .given .1))
+    good-to-line t (a .at) (a .start) (a .end) (a .inside) w (n .0) first (n .1) (h .result) (h .ensures) (c .before .before .before .before .before .before .before .before .before .if3 .left) (r .result) (r .ensures) (o .result .bytes) (r .result .bytes) (o .result .len) (n .2) (n .3) (not-false (r .result .found) (c .before .before .before .before .before .before .if4 .left)) refl _ (line-is t (r .result .at) (r .result .inside) (x .result) (x .ensures) (c .before .following .given .1))
 
 returns-8 : tie.Need-returns-8
 returns-8 c =
@@ -187,7 +187,7 @@ with-words-spec =
     faulty-requires-5
     enum-told
     fault-requires
-    enum-known-next
+    enum-known-following
     enum-told-2
     returns-5
     returns-6

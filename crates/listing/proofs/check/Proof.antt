@@ -37,8 +37,8 @@ add-count c =
 enum-known-content : tie.Need-enum-known-content Inv-loop μ-loop
 enum-known-content c = search needs
 
-cast-t11 : tie.Need-cast-t11 Inv-loop μ-loop
-cast-t11 c =
+cast-t12 : tie.Need-cast-t12 Inv-loop μ-loop
+cast-t12 c =
     let l = c .before .before .before .before .before in
     let t = l .before .before .before .args .text .now in
     let e = c .before .before .before .read-entry in
@@ -98,7 +98,7 @@ check-spec =
     enum-told-2
     add-count
     enum-known-content
-    cast-t11
+    cast-t12
     returns-2
     loop-less
     loop-again

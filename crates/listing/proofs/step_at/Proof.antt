@@ -57,8 +57,8 @@ returns-2 c =
 enum-known-content : tie.Need-enum-known-content Inv-loop μ-loop
 enum-known-content c = search needs
 
-cast-t15 : tie.Need-cast-t15 Inv-loop μ-loop
-cast-t15 c = omega arith
+cast-t16 : tie.Need-cast-t16 Inv-loop μ-loop
+cast-t16 c = omega arith
 
 returns-3 : tie.Need-returns-3 Inv-loop μ-loop
 returns-3 c =
@@ -93,7 +93,7 @@ step-at-spec =
     enum-told-2
     returns-2
     enum-known-content
-    cast-t15
+    cast-t16
     returns-3
     no-record-requires-2
     returns-4)
