@@ -4,8 +4,8 @@ use mathlib.Core.Bool.{Bool, true, false, _&&_, and-false, true≢false, false�
 use mathlib.Core.Path.{_≡_, refl, sym, ap, subst, _∙_}
 use mathlib.Core.Logic.{⊎-elim}
 use native.Mathlib.Nat.{eq-or-lt-of-le, le-of-suc-le-suc, not-suc-le-zero}
-use lib.Dec.{leb}
-use borrow.Author.Tests.{le-leb, lt-leb}
+use lib.Dec.{leb, ltb}
+use borrow.Author.Tests.{le-leb, lt-leb, ltb-true, ltb-false}
 use Rattle.base.specs.Logic.{Decides}
 
 pub and-left : (a b : Bool) → (a && b) ≡ true → a ≡ true
@@ -30,6 +30,14 @@ module _ (low b high : ℕ) where
   over above = ap (λ (t : Bool). leb low b && t) (lt-leb b high above) ∙ and-false (leb low b)
 
 -- ---- deciding
+
+-- by which of two numbers is the greater
+pub by-ltb : {P : Type 0} (a b : ℕ) → (a < b → P) → (b ≤ a → P) → P
+by-ltb {P} a b f g = go (ltb a b) refl
+  where
+    go : (t : Bool) → ltb a b ≡ t → P
+    go true e = f (ltb-true a b e)
+    go false e = g (ltb-false a b e)
 
 -- an answer that is known decides a statement that is known to hold, or not to
 pub yes-by : {P : Type 0} → P → Decides true P

@@ -2,4 +2,5 @@ pub mod VerdictLaws
 pub mod CheckLaws
 pub mod StepLaws
 pub mod SpellingLaws
+pub mod GivingLaws
 pub mod Theorems

@@ -1,6 +1,6 @@
 -- Laws of base64: digits and their values, groups, and the shape of 35 bytes' text. Assumes nothing.
 use Prim.Native.Nat.{ℕ, suc, _+_, _-_, _*_, _/_, _%_, _≤_, _<_}
-use mathlib.Core.Bool.{Bool, true, false, cond, _&&_}
+use mathlib.Core.Bool.{Bool, true, cond, _&&_}
 use mathlib.Core.Path.{_≡_, refl, sym, ap, subst, _∙_}
 use mathlib.Core.List.{List, [], _∷_, _++_, head-eq-of-cons-eq, tail-eq-of-cons-eq}
 use native.Mathlib.Numerals.{add-one}
@@ -8,11 +8,11 @@ use native.Mathlib.Omega.{arith}
 use lib.Dec.{leb, ltb, eqb}
 use lib.ListN.{length, getD, take, drop, set, take-append-drop, drop-of-length-le}
 use lib.Seq.{length-take-le, drop-cons, take-add, sets-eq}
-use borrow.Author.Tests.{eqb-true, ne-eqb, lt-ltb, ltb-true, ltb-false}
+use borrow.Author.Tests.{eqb-true, ne-eqb, lt-ltb}
 use Rattle.base.specs.Bytes.{overlay}
 use Rattle.base.specs.Logic.{Every}
 use Rattle.base.proofs.Bytes.{overlay-append}
-use Rattle.base.proofs.Tests.{below, at-each, over}
+use Rattle.base.proofs.Tests.{by-ltb, below, at-each, over}
 use Rattle.text.specs.Dhcid.{digit64, base64}
 use Rattle.text.specs.DhcidReading.{value64, group}
 
@@ -52,13 +52,6 @@ digit-of v eu el ed ep = λ i. cond (eu i) (v + 65) (cond (el i) (v + 71) (cond 
 no-value : (c : ℕ) → 128 ≤ c → value64 c ≡ 64
 no-value c h =
     value-of c (over 65 c 90 (omega arith)) (over 97 c 122 (omega arith)) (over 48 c 57 (omega arith)) (ne-eqb c 43 (λ e. omega arith)) (ne-eqb c 47 (λ e. omega arith))
-
-pub by-ltb : {P : Type 0} (a b : ℕ) → (a < b → P) → (b ≤ a → P) → P
-by-ltb {P} a b f g = go (ltb a b) refl
-  where
-    go : (t : Bool) → ltb a b ≡ t → P
-    go true e = f (ltb-true a b e)
-    go false e = g (ltb-false a b e)
 
 pub digit-value : (c : ℕ) → value64 c < 64 → digit64 (value64 c) ≡ c
 unfolding written-back

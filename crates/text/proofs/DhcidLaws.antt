@@ -10,8 +10,9 @@ use Rattle.text.specs.Dhcid.{digit64, base64}
 use Rattle.text.specs.DhcidReading.{value64, zeroFilled, Quantum, Begun64, Done64, Refused64, Text64}
 use Rattle.text.specs.declared.dhcid.DhcidWords.{DhcidWords}
 use Rattle.text.proofs.HexLaws.{take-one}
-use Rattle.text.proofs.Base64Laws.{value-digit, digit-value, same-digit, base64-on, length-whole, Shape, shape, by-ltb}
+use Rattle.text.proofs.Base64Laws.{value-digit, digit-value, same-digit, base64-on, length-whole, Shape, shape}
 use Rattle.base.proofs.Lists.{every-append, every-at}
+use Rattle.base.proofs.Tests.{by-ltb}
 
 -- ---- the bytes of a state
 
