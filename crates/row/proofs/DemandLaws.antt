@@ -1,0 +1,90 @@
+-- From grammar's answer to the customer's third demand. Assumes nothing.
+use Prim.Native.Nat.{ℕ, _≤_}
+use mathlib.Core.Bool.{Bool, true, false, true≢false, false≢true}
+use mathlib.Core.Path.{_≡_, refl, sym, ap, subst, _∙_}
+use mathlib.Core.List.{List, _++_, map}
+use lib.ListN.{length, take, drop, length-map}
+use lib.Seq.{take-append-seam, drop-append-seam}
+use Rattle.base.specs.Answer.{value}
+use Rattle.base.specs.declared.Answer.{Answer}
+use Rattle.base.specs.declared.Answer.the-variants.{Accepted, Refused}
+use Rattle.grammar.specs.Listing.{ResourceRecord, Spells}
+use Rattle.grammar.specs.Outcome.{Outcome, accepted, refused, Checked, Answered}
+use Rattle.grammar.proofs.Reader.{answer}
+use Rattle.grammar.proofs.ReaderLaws.{answers, answered, accepted-spells, same-list}
+use Rattle.entry.specs.EntryIs.{held}
+use Rattle.entry.specs.declared.Record.{Record}
+use Rattle.listing.specs.Reading.{limit, counted}
+use Rattle.row.specs.Demand3.{IsAccepted, Demand3}
+use Rattle.row.specs.Row.{placed, RowRead}
+
+accepts : Answer → Bool
+accepts (Accepted n) = true
+accepts (Refused n p) = false
+
+-- an accepted answer is grammar's list, with room for it
+record Accepts (t : List ℕ) (places : ℕ) : Type 0 where
+  list : List ResourceRecord
+  spells : Spells t list
+  room : length list ≤ places
+  outcome : answer limit places t ≡ accepted list
+
+accepted-list : (t : List ℕ) (places : ℕ) → IsAccepted (counted (answer limit places t)) → Accepts t places
+unfolding IsAccepted accepts
+accepted-list t places h = go (answer limit places t) refl (answers limit places t) h
+  where
+    go : (o : Outcome) → answer limit places t ≡ o → Answered limit places t o → IsAccepted (counted o) → Accepts t places
+    go (accepted rs) e a k = let s = accepted-spells a in record { list = rs; spells = s .0; room = s .1; outcome = e }
+    go (refused n p) e a k = absurd (false≢true (ap accepts (k .1)))
+
+-- the demand, of grammar's answer and of the row that goes with it
+module _ (t : List ℕ) (lent : List Record) (short : length t ≤ limit) where
+  abbrev given : Outcome
+  given = answer limit (length lent) t
+
+  answered-list : (rs : List ResourceRecord) → Spells t rs → length rs ≤ length lent → given ≡ accepted rs
+  answered-list rs s room = answered (Answered.in-row (Checked.whole short s) room)
+
+  -- what is accepted and spells rs is answered with rs
+  listed : (rs : List ResourceRecord) → IsAccepted (counted given) → Spells t rs → given ≡ accepted rs
+  listed rs h s = let k = accepted-list t (length lent) h in k .outcome ∙ ap accepted (same-list (k .spells) s)
+
+  pub demand3-met : Demand3 t lent (placed given lent) (counted given)
+  unfolding IsAccepted
+  demand3-met =
+      record {
+        accepted-exactly = (
+          λ h. let k = accepted-list t (length lent) h in (k .list, k .spells, k .room),
+          λ h. (length (h .0), ap counted (answered-list (h .0) (h .1) (h .2))),
+        );
+        one-list = λ rs qs s r. same-list s r;
+        count = λ rs h s. ap (λ (o : Outcome). value (counted o)) (listed rs h s);
+        places = λ rs h s.
+            ap (λ (o : Outcome). take (length rs) (placed o lent)) (listed rs h s)
+            ∙ ap (λ (n : ℕ). take n (placed (accepted rs) lent)) (sym (length-map rs held))
+            ∙ take-append-seam (map held rs) _;
+      }
+
+-- ---- what a call leaves, whatever the listing's length
+
+module _ (t : List ℕ) (lent handed : List Record) (a : Answer) (h : RowRead t lent handed a) where
+  pub as-answered : (o : Outcome) → Answered limit (length lent) t o → (a ≡ counted o) × (handed ≡ placed o lent)
+  as-answered o k = (h .answered ∙ ap counted (answered k), h .row ∙ ap (λ (q : Outcome). placed q lent) (answered k))
+
+  pub as-lent : (n p : ℕ) → a ≡ Refused n p → handed ≡ lent
+  unfolding accepts
+  as-lent n p e = go (answer limit (length lent) t) (sym (h .answered) ∙ e) (h .row)
+    where
+      go : (o : Outcome) → counted o ≡ Refused n p → handed ≡ placed o lent → handed ≡ lent
+      go (accepted rs) k q = absurd (true≢false (ap accepts k))
+      go (refused m r) k q = q
+
+  pub beyond-as-lent : drop (value a) handed ≡ drop (value a) lent
+  beyond-as-lent =
+      subst (λ (b : Answer). drop (value b) handed ≡ drop (value b) lent) (sym (h .answered))
+      (subst (λ (l : List Record). drop (value (counted (answer limit (length lent) t))) l ≡ drop (value (counted (answer limit (length lent) t))) lent) (sym (h .row))
+      (go (answer limit (length lent) t)))
+    where
+      go : (o : Outcome) → drop (value (counted o)) (placed o lent) ≡ drop (value (counted o)) lent
+      go (accepted rs) = ap (λ (n : ℕ). drop n (placed (accepted rs) lent)) (sym (length-map rs held)) ∙ drop-append-seam (map held rs) _
+      go (refused m r) = refl

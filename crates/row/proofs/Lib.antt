@@ -1,0 +1,5 @@
+pub mod BeginLaws
+pub mod DemandLaws
+pub mod FillingLaws
+pub mod LentArray
+pub mod Theorems
