@@ -1,0 +1,7 @@
+pub mod PartLaws
+pub mod PlaceLaws
+pub mod RoomLaws
+pub mod WellFormedLaws
+pub mod WordLaws
+pub mod SpellingLaws
+pub mod Theorems
