@@ -1,0 +1,170 @@
+// Checks a listing. Standard input is the listing; standard output gets its records, each as the writer spells it, or one line such as `refused 24 at 0`
+// and no record. Where input or output fails, a line on the error stream says so and nothing more is printed: a read that failed does not pass for the
+// end of the listing.
+use base::Answer;
+use base::refusal::LISTING_LONG;
+use entry::Record;
+use libc::STDERR_FILENO;
+use libc::STDIN_FILENO;
+use libc::STDOUT_FILENO;
+use listing::Found;
+use listing::check;
+use listing::step_at;
+use writer::LONGEST_LINE;
+use writer::put_record;
+ghost use Prim.Native.Nat.{_+_, _≤_};
+ghost use lib.ListN.{length};
+ghost use Rattle.grammar.specs.Listing.{ResourceRecord};
+ghost use Rattle.writer.specs.Line.{Writable, Holds};
+ghost use Rattle.listing_check.specs.Printing as spec;
+
+// One byte more than the longest listing that this program takes: so much of a longer one is read, and no more. It is the program's own number and
+// stays where it is if the library comes to take longer listings.
+const INPUT_LIMIT: usize = 65537;
+
+// How many bytes of output may wait before they are written out; no fewer than the longest line has.
+const OUTPUT_ROOM: usize = 4096;
+
+enum Input {
+    Read(usize),
+    Failed,
+}
+
+// Reads once from standard input into `room`: how many bytes came, none at the end of the input.
+fn read_some(room: &mut [u8]) -> Input
+    ensures { λ r. ⌜ spec.Fits (now (room .exit)) r ⌝ }
+{
+    let got = libc::read(STDIN_FILENO, room);
+    if got < 0 {
+        return Input::Failed;
+    }
+    Input::Read(io::count(got, room))
+}
+
+// Reads standard input to its end, or until `text` is full: how many bytes came.
+fn read_input(text: &mut [u8]) -> Input
+    ensures { λ r. ⌜ spec.Fits (now (text .exit)) r ⌝ }
+{
+    let mut len: usize = 0;
+    while len < text.len() {
+        match read_some(&mut text[len..]) {
+            Input::Failed => return Input::Failed,
+            Input::Read(n) => {
+                if n == 0 {
+                    return Input::Read(len);
+                }
+                len += n;
+            }
+        }
+    }
+    Input::Read(len)
+}
+
+fn print(bytes: &[u8]) -> bool {
+    io::write_all(STDOUT_FILENO, bytes)
+}
+
+fn complain(line: &[u8]) {
+    io::write_all(STDERR_FILENO, line);
+}
+
+// Puts the line of a record into `out`, behind the `used` bytes that wait there, and answers how many wait then.
+fn put_line(out: &mut [u8], used: usize, place: Record) -> usize
+    requires { ⌜ Writable place ⌝ }
+    requires { ⌜ used + spec.longestLine ≤ length (now out) ⌝ }
+    ensures { λ end. ⌜ ((r : ResourceRecord) → Holds place r → spec.LinePut r (now (out .entry)) used (now (out .exit)) end) ⌝ }
+{
+    match put_record(out, used, place) {
+        Answer::Accepted(n) => used + n as usize,
+        // never: there is room for the longest line
+        Answer::Refused {
+            number: _,
+            offset: _,
+        } => used,
+    }
+}
+
+struct Turn {
+    // where the listing goes on
+    next: usize,
+    // how many bytes of output wait
+    used: usize,
+}
+
+// Puts the line of the next record from `at` on, if there is one, in a listing that is right.
+fn put_next(text: &[u8], at: usize, out: &mut [u8], used: usize) -> Turn
+    requires { ⌜ spec.Right (now text) at ⌝ }
+    requires { ⌜ used + spec.longestLine ≤ length (now out) ⌝ }
+    ensures { λ r. ⌜ spec.TurnIs (now (text .entry)) at (now (out .entry)) used (now (out .exit)) r ⌝ }
+{
+    let step = step_at(text, at);
+    let found = step.found;
+    let record = step.record;
+    let next = step.next;
+    match found {
+        Found::Record => Turn {
+            next: next,
+            used: put_line(out, used, record),
+        },
+        // the end; a refusal never, since the listing is right
+        _ => Turn {
+            next: text.len(),
+            used: used,
+        },
+    }
+}
+
+// Prints the records of a listing that is right. False where the output failed.
+fn print_records(text: &[u8], out: &mut [u8]) -> bool
+    requires { ⌜ spec.Right (now text) 0 ⌝ }
+    requires { ⌜ spec.longestLine ≤ length (now out) ⌝ }
+{
+    let mut at: usize = 0;
+    let mut used: usize = 0;
+    while at < text.len() {
+        if out.len() - used < LONGEST_LINE {
+            if !print(&out[..used]) {
+                return false;
+            }
+            used = 0;
+        }
+        let turn = put_next(text, at, out, used);
+        at = turn.next;
+        used = turn.used;
+    }
+    print(&out[..used])
+}
+
+fn print_refusal(number: u32, offset: u32) -> bool {
+    print(b"refused ")
+        && io::print_decimal(STDOUT_FILENO, number as u64)
+        && print(b" at ")
+        && io::print_decimal(STDOUT_FILENO, offset as u64)
+        && print(b"\n")
+}
+
+// Prints what is to be said of a listing. False where the output failed.
+fn print_answer(text: &[u8]) -> bool {
+    if text.len() == INPUT_LIMIT {
+        return print_refusal(LISTING_LONG, 0);
+    }
+    let mut out = [0u8; OUTPUT_ROOM];
+    match check(text) {
+        Answer::Accepted(_) => print_records(text, &mut out),
+        Answer::Refused { number, offset } => print_refusal(number, offset),
+    }
+}
+
+fn main() {
+    // The listing is checked whole before a record of it is printed, so all of it stands in memory; and there is no heap. Nothing copies it: every function
+    // above is lent it, or a part.
+    let mut text = [0u8; INPUT_LIMIT];
+    match read_input(&mut text) {
+        Input::Failed => complain(b"listing_check: standard input could not be read\n"),
+        Input::Read(n) => {
+            if !print_answer(&text[..n]) {
+                complain(b"listing_check: standard output could not be written\n");
+            }
+        }
+    }
+}
