@@ -20,10 +20,10 @@ ghost use Rattle.grammar.specs.Listing.{ResourceRecord};
 ghost use Rattle.writer.specs.Line as spec;
 ghost use Rattle.writer.specs.Parts as parts;
 
-// The longest line: an owner of 254 bytes in text, the type DHCID, and base64 of 48 bytes.
+// The longest line, a DHCID's: an owner of 254 bytes, a blank, 5 bytes of type, a blank, 48 bytes of data, and byte 10 (the theorem longest-line).
 pub const LONGEST_LINE: usize = 310;
 
-// What AAAA records' and DHCIDs' data are in text, always.
+// How many bytes the data of every AAAA record and of every DHCID record are in text.
 const AAAA_TEXT: usize = 39;
 
 const DHCID_TEXT: usize = 48;
@@ -58,7 +58,7 @@ pub fn line_length(place: Record) -> usize
     requires { ⌜ spec.Writable place ⌝ }
     ensures { λ n. ⌜ ((r : ResourceRecord) → spec.Holds place r → n ≡ length (spec.line r)) ⌝ }
 {
-    // in text a name has one byte less, and the line ends with one more
+    // a name has one byte less in text, and the line's byte 10 is one more
     place.owner_len as usize + type_length(place.rtype) + data_length(place.rtype, &place.rdata)
 }
 
@@ -94,7 +94,7 @@ fn put_data(to: &mut [u8], at: usize, rtype: u8, rdata: &[u8]) -> usize
     }
 }
 
-// Writes what follows the owner.
+// Writes what follows the owner: type, data and byte 10.
 fn put_rest(to: &mut [u8], at: usize, rtype: u8, rdata: &[u8])
     requires { ⌜ length (now rdata) ≡ 35 ⌝ }
     requires { ⌜ at + length (parts.restPart rtype (now rdata)) ≤ length (now to) ⌝ }
