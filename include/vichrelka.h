@@ -16,7 +16,8 @@
  *         printf("refused %u at %u\n", (unsigned)vichrelka_refusal(answer), (unsigned)vichrelka_place(answer));
  *
  * What the caller owes, of every pointer with its length: so many bytes can be read there until the call returns, and nobody else
- * writes them meanwhile; the length is below 2^63; the pointer is null only if the length is 0.
+ * writes them meanwhile; the length is below 2^63; the pointer is null only if the length is 0. What a call writes (its pointer is
+ * not to const) can be written too, and overlaps nothing else that is lent to the call.
  */
 #ifndef VICHRELKA_H
 #define VICHRELKA_H
@@ -28,11 +29,45 @@
 extern "C" {
 #endif
 
+/* The most bytes that a DHCP message may have. */
+#define VICHRELKA_MESSAGE_LIMIT 2048
+
+/* The bytes of a DHCID: two of identifier type, one of digest type, 32 of SHA-256. */
+#define VICHRELKA_DHCID_LEN 35
+
 /* The most bytes that a listing may have. */
 #define VICHRELKA_LISTING_LIMIT 65536
 
-/* The numbers of the refusals. An entry of a listing is a line, or several lines that parentheses hold together. */
+/* The numbers of the refusals. A level of a DHCPv6 message is a relay's message, or the client's, which stands inside them all. An
+   entry of a listing is a line, or several lines that parentheses hold together. */
 enum vichrelka_refused {
+    /* the message has fewer than 240 bytes (DHCPv4) or 4 (DHCPv6), or more than VICHRELKA_MESSAGE_LIMIT */
+    VICHRELKA_REFUSED_MESSAGE_LENGTH = 1,
+    /* DHCPv4: op is not 1, or the magic cookie is not there */
+    VICHRELKA_REFUSED_NOT_BOOTREQUEST = 2,
+    /* DHCPv4: hlen is over 16 */
+    VICHRELKA_REFUSED_HARDWARE_ADDRESS_LENGTH = 3,
+    /* an option runs past the end, or DHCPv4 options have no End; a DHCPv6 level is empty, shorter than its header or not just
+       filled by its options, or a relay has no Relay Message option (9) */
+    VICHRELKA_REFUSED_OPTIONS_MALFORMED = 4,
+    /* an option that matters is there twice: DHCPv4 52, 53, 61, 81; DHCPv6 9 in a relay, 1 or 39 in the client's message */
+    VICHRELKA_REFUSED_OPTION_REPEATED = 5,
+    /* DHCPv4: Option Overload (52) is there */
+    VICHRELKA_REFUSED_OPTION_OVERLOAD = 6,
+    /* DHCPv4: option 53 is not just the byte 3, DHCPREQUEST; DHCPv6: a level is no Request, Renew, Rebind or Relay-forward */
+    VICHRELKA_REFUSED_NOT_A_REQUEST = 7,
+    /* DHCPv4: option 61 has fewer than 2 bytes, or is absent and hlen is 0; DHCPv6: option 1 is absent, or not of 3 to 130 bytes */
+    VICHRELKA_REFUSED_NO_IDENTIFIER = 8,
+    /* no name can be used: the site's is no proper one, and the client's is not either or is not asked for */
+    VICHRELKA_REFUSED_NO_PROPER_NAME = 9,
+    /* DHCPv6: a ninth relay stands around the client's message */
+    VICHRELKA_REFUSED_TOO_MANY_RELAYS = 11,
+    /* the family is not 4 or 6, or the setting not 0 or 1 */
+    VICHRELKA_REFUSED_UNKNOWN_SETTING = 12,
+    /* there is less room for the output than what is to be written */
+    VICHRELKA_REFUSED_OUTPUT_SHORT = 13,
+    /* identifier and name have more than 4,096 bytes together: the rules have this number, and no message leads to it */
+    VICHRELKA_REFUSED_HASH_INPUT_LONG = 14,
     /* the listing has more than VICHRELKA_LISTING_LIMIT bytes */
     VICHRELKA_REFUSED_LISTING_LONG = 17,
     /* an entry has a byte other than tab, line end and 32 to 126 (in a comment too), a `(` inside parentheses, a `)` outside them,
@@ -45,6 +80,12 @@ enum vichrelka_refused {
     VICHRELKA_REFUSED_ENTRY_TYPE = 22,
     /* an entry's data are not those of its type, or words stand after them */
     VICHRELKA_REFUSED_ENTRY_DATA = 24
+};
+
+/* Where a chosen name stands: in the message, or in the site's name. */
+enum vichrelka_source {
+    VICHRELKA_SOURCE_MESSAGE = 0,
+    VICHRELKA_SOURCE_SITE = 1
 };
 
 /* The number of the refusal; 0 if the call was accepted. */
@@ -65,6 +106,63 @@ static inline uint32_t vichrelka_place(uint64_t answer)
 {
     return answer >> 32 == 0 ? 0 : (uint32_t)(answer & 0xffffffffu);
 }
+
+/* The value of vichrelka_name taken apart: the source, an enum vichrelka_source (bits 30 and 31); the offset there at which the name
+   starts (bits 8 to 29); the bytes of the name, its last zero byte included (bits 0 to 7). All are 0 if the call was refused. */
+static inline uint32_t vichrelka_name_source(uint64_t answer)
+{
+    return vichrelka_value(answer) >> 30;
+}
+
+static inline uint32_t vichrelka_name_start(uint64_t answer)
+{
+    return vichrelka_value(answer) >> 8 & 0x3fffffu;
+}
+
+static inline uint32_t vichrelka_name_len(uint64_t answer)
+{
+    return vichrelka_value(answer) & 0xffu;
+}
+
+/*
+ * Choose the name of a DHCP request. Its value says where that name stands, uncopied, with its letters in whatever case:
+ *
+ *     const uint8_t *name = vichrelka_name_source(answer) == VICHRELKA_SOURCE_SITE ? site : message;
+ *     name += vichrelka_name_start(answer);
+ *
+ * Family 4 is a DHCPv4 message, family 6 a DHCPv6 one, which may stand inside up to eight relays' messages. With setting 1 it is
+ * the client's name if that is a proper one, and else the site's; with setting 0 it is always the site's. The client's name is
+ * that of DHCPv4 option 81 if flag E is set there, or that of DHCPv6 option 39. A proper name is in wire form: one or more labels
+ * of 1 to 63 letters, digits, hyphens and underscores, each after a byte with its length, then one zero byte, 255 bytes at most
+ * in all, and nothing behind it.
+ *
+ * Refusals, in order, with place 0: 12; the message's; 9. The message's are 1, 2, 3, 4, 5, 6, 7 and 8 for DHCPv4. For DHCPv6 they
+ * are 1; then, level by level from the outermost on, 4 for one that is empty, 7, 11, 4 for its header and its options, and in a
+ * relay 4 for no option 9 and 5 for two; then, in the client's message, 5 and 8. Nothing is written, whatever the answer.
+ */
+uint64_t vichrelka_name(uint32_t family, uint32_t setting,
+                        const uint8_t *message, size_t message_len,
+                        const uint8_t *site, size_t site_len);
+
+/*
+ * Compute the DHCID of a DHCP request (RFC 4701), for the name that vichrelka_name chooses. Its value is VICHRELKA_DHCID_LEN: so
+ * many bytes are written, the first ones of out, and those behind them stay as they are.
+ *
+ * A DHCID is the type of the client's identifier in two bytes, the byte 1, and the SHA-256 of the identifier followed by the name
+ * in lower case. The identifier is
+ *
+ *     type 2   the DUID: the data of DHCPv6 option 1, or those of DHCPv4 option 61 behind the first five bytes, if the first is 255
+ *              and there are 8 to 135 of them (RFC 4361)
+ *     type 1   the data of any other DHCPv4 option 61
+ *     type 0   htype and the first hlen bytes of chaddr, of a DHCPv4 message without option 61
+ *
+ * Refusals, in order, with place 0: those of vichrelka_name; 14, which no message leads to; 13 for fewer than VICHRELKA_DHCID_LEN
+ * bytes of out. Where it is refused nothing is written.
+ */
+uint64_t vichrelka_dhcid(uint32_t family, uint32_t setting,
+                         const uint8_t *message, size_t message_len,
+                         const uint8_t *site, size_t site_len,
+                         uint8_t *out, size_t out_len);
 
 /*
  * Check a listing. Its value is the number of its records, which is 0 for a listing without any, the empty one included.

@@ -4,6 +4,32 @@ ghost use mathlib.Core.Path.{_≡_};
 ghost use Rattle.base.specs.Answer.{forC};
 ghost use Rattle.grammar.proofs.Reader as reader;
 ghost use Rattle.listing.specs.Reading.{limit, counted};
+ghost use Rattle.dhcid.specs.Chosen.{placeAnswer};
+ghost use Rattle.dhcid.specs.Choosing.{choose, writingAnswer, writingOutput};
+
+// uint64_t vichrelka_name(uint32_t family, uint32_t setting, const uint8_t *message, size_t message_len, const uint8_t *site, size_t site_len)
+#[no_mangle]
+pub extern "C" fn vichrelka_name(family: u32, setting: u32, message: &[u8], site: &[u8]) -> u64
+    ensures { λ r. ⌜ r ≡ forC (placeAnswer (choose family setting (now (message .entry)) (now (site .entry)))) ⌝ }
+{
+    dhcid::place(family, setting, message, site).for_c()
+}
+
+// uint64_t vichrelka_dhcid(uint32_t family, uint32_t setting, const uint8_t *message, size_t message_len, const uint8_t *site, size_t site_len,
+//                          uint8_t *out, size_t out_len)
+#[no_mangle]
+pub extern "C" fn vichrelka_dhcid<'a>(
+    family: u32,
+    setting: u32,
+    message: &'a [u8],
+    site: &'a [u8],
+    out: &mut [u8],
+) -> u64
+    ensures answer { λ r. ⌜ r ≡ forC (writingAnswer family setting (now (message .entry)) (now (site .entry)) (now (out .entry))) ⌝ }
+    ensures output { λ r. ⌜ now (out .exit) ≡ writingOutput family setting (now (message .entry)) (now (site .entry)) (now (out .entry)) ⌝ }
+{
+    dhcid::put_dhcid(family, setting, message, site, out).for_c()
+}
 
 // uint64_t vichrelka_listing_check(const uint8_t *text, size_t text_len)
 #[no_mangle]

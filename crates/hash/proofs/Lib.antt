@@ -1,4 +1,5 @@
 pub mod BlockLaws
 pub mod StateLaws
 pub mod PaddingLaws
+pub mod DigestLaws
 pub mod Theorems

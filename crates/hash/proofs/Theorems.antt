@@ -1,5 +1,5 @@
 -- The public theorems of `hash`: what the promises of its functions say of a message. Assumes nothing.
-use Prim.Native.Nat.{ℕ, _+_, _*_, _%_}
+use Prim.Native.Nat.{ℕ, _+_, _*_, _/_, _%_}
 use mathlib.Core.Path.{_≡_, sym, ap, _∙_}
 use mathlib.Core.List.{List, [], _++_}
 use native.Mathlib.Omega.{arith}
@@ -9,6 +9,7 @@ use Rattle.hash.specs.State.{waiting, blocks, remainder, Begins, Takes, 
 use Rattle.hash.specs.declared.Sha256.{Sha256}
 use Rattle.hash.proofs.StateLaws.{value-on, remainder-on}
 use Rattle.hash.proofs.PaddingLaws.{padding-modulo}
+use Rattle.hash.proofs.DigestLaws.{length-value, length-digest}
 
 -- `begin` is the state of the empty message
 pub begun : (s : Sha256) → Begins s → StateOf [] s
@@ -37,3 +38,8 @@ finished m s r o t =
 pub zero-bits : (n : ℕ) → ZeroBits n (7 + 8 * zeroBytes n)
 unfolding zeroBytes
 zero-bits n = record { solves = omega arith; least = λ j h. omega arith }
+
+-- a digest has 32 bytes
+pub digest-size : (m : List ℕ) → length (sha256 m) ≡ 32
+unfolding sha256
+digest-size m = length-digest (hashValue H₀ (padded m) (length (padded m) / 64)) ∙ ap (λ (n : ℕ). 4 * n) (length-value (padded m) (length (padded m) / 64))

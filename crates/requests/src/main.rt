@@ -2,6 +2,12 @@
 // of the output is the label and the answer: the refusal; or the identifier's type, its two parts and the name, each part as its start and its length. The
 // messages are laid out by RFC 2131 and 2132 and RFC 8415, and the answers, in the file `stdout`, were written from document 01 before this program first ran:
 // both sides of each edge, and for each two neighbours in a family's order of refusals a message with both faults.
+// A line with a setting and a site's name too is answered with the chosen name, the number of bytes written or the refusal, and the output's bytes; RFC 4701's
+// three examples (3.6.1 to 3.6.3, in hexadecimal) stand first.
+use base::Answer;
+use dhcid::Chosen;
+use dhcid::choose;
+use dhcid::put_dhcid;
 use libc::STDIN_FILENO;
 use libc::STDOUT_FILENO;
 use message::Part;
@@ -9,7 +15,7 @@ use message::Request;
 use message::v4::read4;
 use message::v6::read6;
 use text::digit::digit_value;
-ghost use Prim.Native.Nat.{_≤_};
+ghost use Prim.Native.Nat.{_+_, _≤_, _<_};
 ghost use lib.ListN.{length};
 
 const LINE_END: u8 = 10;
@@ -183,7 +189,66 @@ fn find(text: &[u8], at: usize, b: u8) -> usize
     i
 }
 
-fn answer(family: u8, message: &[u8]) {
+fn print_hex(bytes: &[u8]) {
+    let mut i: usize = 0;
+    while i < bytes.len() {
+        io::print_hex(STDOUT_FILENO, wide(bytes[i]), 2);
+        i += 1;
+    }
+}
+
+fn wide(b: u8) -> u64 {
+    b as u64
+}
+
+fn print_source(chosen: Chosen) {
+    if chosen.refusal != 0 {
+        return;
+    }
+    if chosen.from_site {
+        print(b" site");
+    } else {
+        print(b" message");
+    }
+    let part = chosen.part;
+    print_part(part);
+}
+
+fn print_answer(answer: Answer) {
+    match answer {
+        Answer::Accepted(n) => {
+            print(b" wrote ");
+            print_number(n as u64);
+        }
+        Answer::Refused { number, offset: _ } => {
+            print(b" refused ");
+            print_number(number as u64);
+        }
+    }
+}
+
+// The chosen name, the DHCID's answer, and the output's bytes.
+fn print_dhcid<'a>(family: u32, setting: u32, message: &'a [u8], site: &'a [u8], out: &mut [u8]) {
+    print(b":");
+    print_source(choose(family, setting, message, site));
+    print_answer(put_dhcid(family, setting, message, site, out));
+    print(b" ");
+    print_hex(out);
+    print(b"\n");
+}
+
+// With an output of 36 bytes, or of 34, that holds bytes 238.
+fn show_dhcid<'a>(family: u32, setting: u32, is_short: bool, message: &'a [u8], site: &'a [u8]) {
+    if is_short {
+        let mut out = [238u8; 34];
+        print_dhcid(family, setting, message, site, &mut out);
+    } else {
+        let mut out = [238u8; 36];
+        print_dhcid(family, setting, message, site, &mut out);
+    }
+}
+
+fn show_request(family: u8, message: &[u8]) {
     if family == b'4' {
         print_request(read4(message));
     } else {
@@ -191,15 +256,56 @@ fn answer(family: u8, message: &[u8]) {
     }
 }
 
-fn show(line: &[u8], room: &mut [u8]) {
-    let label = find(line, 0, b';');
-    print(&line[..label]);
-    if line.len() - label < 3 {
+// A line behind its label: the family, a blank, and the message.
+fn show_message(line: &[u8], room: &mut [u8]) {
+    if line.len() < 2 {
         print(b": no message\n");
         return;
     }
-    let n = make(&line[label + 2..], room);
-    answer(line[label + 1], &room[..n]);
+    let n = make(&line[2..], room);
+    show_request(line[0], &room[..n]);
+}
+
+// In `room` stand the k bytes of the site's name, and then the n bytes of the message.
+fn show_both(family: u32, setting: u32, is_short: bool, room: &[u8], k: usize, n: usize)
+    requires { ⌜ k + n ≤ length (now room) ⌝ }
+{
+    show_dhcid(family, setting, is_short, &room[k..k + n], &room[..k]);
+}
+
+// The family, a blank, the setting, . or - for the output, a blank, and the site's name; behind `middle` the message.
+fn show_named(line: &[u8], middle: usize, room: &mut [u8])
+    requires { ⌜ middle < length (now line) ⌝ }
+{
+    if middle < 5 {
+        print(b": no message\n");
+        return;
+    }
+    let family = digit_value(line[0]) as u32;
+    let setting = digit_value(line[2]) as u32;
+    let is_short = line[3] == b'-';
+    let k = make(&line[5..middle], room);
+    let n = make(&line[middle + 1..], &mut room[k..]);
+    show_both(family, setting, is_short, room, k, n);
+}
+
+fn show_rest(line: &[u8], room: &mut [u8]) {
+    let middle = find(line, 0, b';');
+    if middle == line.len() {
+        show_message(line, room);
+    } else {
+        show_named(line, middle, room);
+    }
+}
+
+fn show(line: &[u8], room: &mut [u8]) {
+    let label = find(line, 0, b';');
+    print(&line[..label]);
+    if label == line.len() {
+        print(b": no message\n");
+        return;
+    }
+    show_rest(&line[label + 1..], room);
 }
 
 fn show_all(text: &[u8], room: &mut [u8]) {

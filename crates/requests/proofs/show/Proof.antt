@@ -13,9 +13,6 @@ slice-aggregate-print c = simp length-take (omega arith)
 print-requires : tie.Need-print-requires
 print-requires c κs = search needs
 
-sub-if1 : tie.Need-sub-if1
-sub-if1 c = search needs
-
 slice-aggregate-print-2 : tie.Need-slice-aggregate-print-2
 slice-aggregate-print-2 c = search needs
 
@@ -25,35 +22,20 @@ print-requires-2 c κs = search needs
 returns : tie.Need-returns
 returns c = search needs
 
-add-make : tie.Need-add-make
-add-make c = search needs
+add-show-rest : tie.Need-add-show-rest
+add-show-rest c = search needs
 
-sub-make : tie.Need-sub-make
-sub-make c = search needs
+sub-show-rest : tie.Need-sub-show-rest
+sub-show-rest c = search needs
 
-part-make-start : tie.Need-part-make-start
-part-make-start c = search needs
+part-show-rest-start : tie.Need-part-show-rest-start
+part-show-rest-start c = search needs
 
-part-make-end : tie.Need-part-make-end
-part-make-end c = search needs
+part-show-rest-end : tie.Need-part-show-rest-end
+part-show-rest-end c = search needs
 
-make-requires : tie.Need-make-requires
-make-requires c κs = search needs
-
-add-answer : tie.Need-add-answer
-add-answer c = search needs
-
-shared-slice-read-answer : tie.Need-shared-slice-read-answer
-shared-slice-read-answer c = search needs
-
-slice-reshare-prefix-answer : tie.Need-slice-reshare-prefix-answer
-slice-reshare-prefix-answer c = search needs
-
-slice-aggregate-answer : tie.Need-slice-aggregate-answer
-slice-aggregate-answer c = simp length-take (omega arith)
-
-answer-requires : tie.Need-answer-requires
-answer-requires c κs = search needs
+show-rest-requires : tie.Need-show-rest-requires
+show-rest-requires c κs = search needs
 
 same-length : tie.Need-same-length
 same-length c = search needs
@@ -68,19 +50,13 @@ show-spec =
     find-requires
     slice-aggregate-print
     print-requires
-    sub-if1
     slice-aggregate-print-2
     print-requires-2
     returns
-    add-make
-    sub-make
-    part-make-start
-    part-make-end
-    make-requires
-    add-answer
-    shared-slice-read-answer
-    slice-reshare-prefix-answer
-    slice-aggregate-answer
-    answer-requires
+    add-show-rest
+    sub-show-rest
+    part-show-rest-start
+    part-show-rest-end
+    show-rest-requires
     same-length
     returns-2)

@@ -1,0 +1,4 @@
+pub mod Chosen
+pub mod Dhcid
+pub mod Handing
+pub mod Choosing
