@@ -2,19 +2,30 @@
 
     ask(harness, lines)      one answer for each line: "crashed ..." or "hung" where the harness fell, "no answer" where it was not asked
                              again
-    read_edges(path)         the hand-written cases of a data file: [Edge(text, expected, why), ...]
+    main(test)               the whole of a comparison, which a Test describes: tests/README.md says what is compared
+    read_edges(path)         the hand-written texts of a data file: [Edge(text, expected, why), ...]
     shown(text)              bytes in the escape form of those files
 
-Every call of the library can be compared through these; nothing here knows of listings.
+Every call of the library can be compared through these; nothing here knows of listings or messages.
 """
 
+import argparse
+import itertools
+import multiprocessing
+import os
 import re
 import subprocess
-from typing import List, NamedTuple, Tuple
+from collections import Counter
+from typing import Any, Callable, Iterable, Iterator, List, NamedTuple, Tuple
 
 CRASHES = 3  # how often the harness is started again in one go
 SECONDS = 300  # how long it may work in one go
+SHOWN = 20  # differences that are printed
+STEP = 12000  # cases of small forms in one go
+PLANTED_BATCHES = 5  # of generated cases, that each shim is asked
 
+
+# The harness
 
 def run(harness: str, lines: List[str]) -> Tuple[List[str], str]:
     """The answers of one run of the harness, and how it fell, if it did."""
@@ -47,6 +58,161 @@ def ask(harness: str, lines: List[str]) -> List[str]:
             answers[-1] = fallen  # at its end, with all of them answered
     return answers + ["no answer"] * (len(lines) - len(answers))
 
+
+# Comparing
+
+class Case(NamedTuple):
+    line: str  # as the harness reads it
+    right: str  # the answer that it should print
+    kind: str  # how the case was made, or why it has this answer
+    group: str = ""  # which kind of answer that is; every group has to be met among the generated cases
+    against: str = ""  # what speaks against the model: another answer was meant, or written by hand
+
+
+class Test(NamedTuple):
+    """What is compared. Its functions are called in several processes, so they stand at the top of a module.
+
+    What is generated has three parts: its kind, what is asked, and the answer that it was meant to have, if that is known.
+    """
+    what: str  # the call, for each printed line
+    noun: str  # what the cases are
+    answer: Callable[[Any], Any]  # of the model, to what is asked
+    printed: Callable[[Any], str]  # an answer as the harness prints it
+    line: Callable[[Any], str]  # what is asked, as the harness reads it
+    shown: Callable[[str], str]  # a line as people read it
+    group: Callable[[Any, Any], str]  # of what is asked, and of the answer
+    groups: List[str]
+    edges: Callable[[], List[Case]]
+    small_forms: Callable[[], Iterator[Tuple[str, Any, Any]]]
+    generated: Callable[[int, int, int], Iterator[Tuple[str, Any, Any]]]  # seed, number of the batch, how many
+    batch: int
+
+
+def judged(test: Test, cases: Iterable[Tuple[str, Any, Any]]) -> List[Case]:
+    judgements = []
+    for kind, asked, meant in cases:
+        answer = test.answer(asked)
+        right = test.printed(answer)
+        against = "" if meant in (None, answer) else "meant: %s; the model: %s" % (test.printed(meant), right)
+        judgements.append(Case(test.line(asked), right, kind, test.group(asked, answer), against))
+    return judgements
+
+
+class Found(NamedTuple):
+    passed: int
+    failed: int
+    groups: "Counter[str]"
+    differences: List[str]
+
+
+def compared(test: Test, harness: str, cases: List[Case]) -> Found:
+    differences = []
+    failed = 0
+    for case, answer in zip(cases, ask(harness, [case.line for case in cases])):
+        wrong = ["the library: %s; right: %s" % (answer, case.right)] if answer != case.right else []
+        wrong += [case.against] if case.against else []
+        if wrong:
+            failed += 1
+            if len(differences) < SHOWN:
+                differences.append("%s (%s)\n    %s" % ("; ".join(wrong), case.kind, test.shown(case.line)))
+    return Found(len(cases) - failed, failed, Counter(case.group for case in cases), differences)
+
+
+# Pieces of work for one process
+
+def compared_small(given: Tuple[Test, str, int, int]) -> Found:
+    test, harness, first, count = given
+    return compared(test, harness, judged(test, itertools.islice(test.small_forms(), first, first + count)))
+
+
+def compared_generated(given: Tuple[Test, str, int, int, int]) -> Found:
+    test, harness, seed, batch, count = given
+    return compared(test, harness, judged(test, test.generated(seed, batch, count)))
+
+
+def told(given: Tuple[str, List[List[Case]]]) -> List[int]:
+    """How many cases of each list tell a shim from what is right; a case that was not asked any more tells nothing."""
+    harness, asked = given
+    return [sum(answer not in (case.right, "no answer") for case, answer in zip(cases, ask(harness, [case.line for case in cases])))
+            for cases in asked]
+
+
+# The whole
+
+class Tally:
+    """What has passed and failed so far; the first differences are printed."""
+
+    def __init__(self, what: str) -> None:
+        self.what = what
+        self.passed = self.failed = self.printed = 0
+        self.groups: "Counter[str]" = Counter()
+
+    def say(self, line: str) -> None:
+        print("%s: %s" % (self.what, line))
+
+    def add(self, found: Found) -> None:
+        self.passed += found.passed
+        self.failed += found.failed
+        self.groups.update(found.groups)
+        for difference in found.differences[:SHOWN - self.printed]:
+            self.printed += 1
+            self.say(difference)
+
+    def judge(self, good: bool, line: str) -> None:
+        self.passed += good
+        self.failed += not good
+        self.say(line)
+
+
+def first_to_last(count: int, step: int) -> List[Tuple[int, int]]:
+    """So many cases in pieces: the first of each, and how many it has."""
+    return [(first, min(step, count - first)) for first in range(0, count, step)]
+
+
+def main(test: Test) -> int:
+    """Prints what was compared and ends in the line `N passed, M failed`; 0 only if M is 0."""
+    parser = argparse.ArgumentParser(description="Compare the library with the model, through the harness: %s." % test.what)
+    parser.add_argument("--harness", required=True)
+    parser.add_argument("--seed", type=int, required=True)
+    parser.add_argument("--cases", type=int, required=True, help="number of generated cases")
+    parser.add_argument("--jobs", type=int, default=2)
+    parser.add_argument("--planted", nargs="*", default=[], help="harnesses with a planted difference; `faithful` has none")
+    options = parser.parse_args()
+    harness, seed = options.harness, options.seed
+    tally = Tally(test.what)
+
+    with multiprocessing.Pool(options.jobs) as pool:
+        edges = test.edges()
+        tally.add(compared(test, harness, edges))
+        tally.say("%d edges written by hand" % len(edges))
+
+        small = sum(1 for _ in test.small_forms())
+        for found in pool.imap(compared_small, [(test, harness, first, count) for first, count in first_to_last(small, STEP)]):
+            tally.add(found)
+        tally.say("%d %s of small forms, all of them" % (small, test.noun))
+
+        tally.groups.clear()  # what is never generated, the others do not make up for
+        pieces = [(test, harness, seed, first // test.batch, count) for first, count in first_to_last(options.cases, test.batch)]
+        for found in pool.imap(compared_generated, pieces):
+            tally.add(found)
+        counts = ", ".join("%s %d" % (group, tally.groups[group]) for group in test.groups)
+        tally.say("%d generated %s, seed %d: %s" % (options.cases, test.noun, seed, counts))
+        for group in test.groups:
+            if tally.groups[group] == 0:
+                tally.judge(False, "not one of the generated %s had the answer: %s" % (test.noun, group))
+
+        generated = [case for batch in range(PLANTED_BATCHES) for case in judged(test, test.generated(seed, batch, test.batch))]
+        for path, (by_edges, by_generated) in zip(options.planted, pool.imap(told, [(path, [edges, generated]) for path in options.planted])):
+            name = os.path.basename(path)
+            good = (by_edges + by_generated > 0) != (name == "faithful")
+            tally.judge(good, "planted %-20s %s by %d of %d edges and %d of %d generated %s" % (
+                name, "told" if good else "NOT AS IT SHOULD BE: told", by_edges, len(edges), by_generated, len(generated), test.noun))
+
+    print("%d passed, %d failed" % (tally.passed, tally.failed))
+    return 0 if tally.failed == 0 and tally.passed > 0 else 1
+
+
+# Texts written by hand
 
 class Edge(NamedTuple):
     text: bytes

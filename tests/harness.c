@@ -1,16 +1,17 @@
 /*
- * The harness: calls the library from C, one case a line on standard input, one answer a line on standard output. tests/README.md
- * has the format.
+ * The general part of a harness: one case a line on standard input, one answer a line on standard output.
  *
- * A lent text stands twice in memory, and both calls have to agree: with its last byte right before a page that nobody can read,
- * and with its first byte right behind one. So a read past either end is a fault, whatever the compiler knows of the library. The
- * rest of its pages holds noise; text and noise are compared after each call. The empty text is also called as a null pointer.
+ * Whatever is lent stands right before or right behind a page that nobody can read, so that a read past that end is a fault,
+ * whatever the compiler knows of the library. The other side has noise; what was lent and the noise are compared after each call.
  *
  * Every answer is written out at once: whoever compares sees at which case the harness fell.
  */
 #define _DEFAULT_SOURCE
 #define _POSIX_C_SOURCE 200809L
 
+#include "harness.h"
+
+#include <errno.h>
 #include <inttypes.h>
 #include <stdio.h>
 #include <stdlib.h>
@@ -21,32 +22,55 @@
 
 #include "vichrelka.h"
 
-enum { ROOM = 256 * 1024, NOISE = 64 };
+enum { NOISE = 64 };
 
-/* ROOM bytes with an unreadable page on either side */
-static uint8_t *lent;
-/* what stood there before a call */
-static uint8_t *before;
-
-static void fail(const char *what)
+void fail(const char *what)
 {
     fprintf(stderr, "harness: %s\n", what);
     exit(2);
 }
 
-static void prepare(void)
+/* Fields */
+
+/* Where the next field ends. */
+static size_t field_len(const char *rest)
 {
-    size_t page = (size_t)sysconf(_SC_PAGESIZE);
-    uint8_t *area;
-    if (ROOM % page != 0)
-        fail("pages are larger than expected");
-    area = mmap(NULL, ROOM + 2 * page, PROT_READ | PROT_WRITE, MAP_PRIVATE | MAP_ANONYMOUS, -1, 0);
-    if (area == MAP_FAILED || mprotect(area, page, PROT_NONE) != 0 || mprotect(area + page + ROOM, page, PROT_NONE) != 0)
-        fail("no memory with unreadable pages around it");
-    lent = area + page;
-    before = malloc(ROOM);
-    if (before == NULL)
-        fail("no memory");
+    return strcspn(rest, " ");
+}
+
+static void pass_field(char **rest, size_t len)
+{
+    *rest += len;
+    if (**rest == ' ')
+        (*rest)++;
+}
+
+int take_word(char **rest, const char *word)
+{
+    size_t len = field_len(*rest);
+    if (strlen(word) != len || strncmp(*rest, word, len) != 0)
+        return 0;
+    pass_field(rest, len);
+    return 1;
+}
+
+/* The number that a text begins with, and its digits' end; whether there is one. */
+static int read_number(const char *text, uint64_t most, uint64_t *number, char **end)
+{
+    if (*text < '0' || *text > '9')
+        return 0;
+    errno = 0;
+    *number = strtoull(text, end, 10);
+    return errno == 0 && *number <= most;
+}
+
+int take_number(char **rest, uint64_t most, uint64_t *number)
+{
+    char *end;
+    if (!read_number(*rest, most, number, &end) || end != *rest + field_len(*rest))
+        return 0;
+    pass_field(rest, (size_t)(end - *rest));
+    return 1;
 }
 
 static int hex_digit(char c)
@@ -58,95 +82,115 @@ static int hex_digit(char c)
     return -1;
 }
 
-/* The bytes of a field, into the same memory; their number, or -1 if it is no field. `-` is no bytes. */
-static ssize_t decode(char *field)
+/* HEX, HEX+N or -+N; `-` alone is no bytes. */
+int take_bytes(char **rest, struct bytes *bytes)
 {
+    char *field = *rest, *end = field + field_len(field);
     uint8_t *out = (uint8_t *)field;
-    size_t n = 0;
-    if (strcmp(field, "-") == 0)
+    uint64_t zeros = 0;
+    size_t digits = strcspn(field, " +"), n;
+    char *after = field + digits;
+    if (*after == '+' && (!read_number(after + 1, PTRDIFF_MAX, &zeros, &after) || zeros == 0))
         return 0;
-    for (; field[2 * n] != '\0'; n++) {
-        int high = hex_digit(field[2 * n]);
-        int low = high < 0 ? -1 : hex_digit(field[2 * n + 1]);
-        if (low < 0)
-            return -1;
-        out[n] = (uint8_t)(high * 16 + low);
-    }
-    return n == 0 ? -1 : (ssize_t)n;
-}
-
-/* One call on a text that stands at the end or at the beginning of the room; whether all lent bytes are as before */
-static int check_at(int at_end, const uint8_t *text, size_t len, uint64_t *answer)
-{
-    size_t noise = ROOM - len < NOISE ? ROOM - len : NOISE;
-    uint8_t *place = at_end ? lent + ROOM - len : lent;
-    uint8_t *first = at_end ? place - noise : place;
-    if (len > 0)
-        memcpy(place, text, len);
-    memset(at_end ? first : place + len, 'x', noise);
-    memcpy(before, first, len + noise);
-    *answer = vichrelka_listing_check(place, len);
-    return memcmp(before, first, len + noise) == 0;
-}
-
-static void print(uint64_t answer)
-{
-    if (vichrelka_refusal(answer) == 0)
-        printf("ok %" PRIu32 "\n", vichrelka_value(answer));
-    else
-        printf("refused %" PRIu32 " at %" PRIu32 "\n", vichrelka_refusal(answer), vichrelka_place(answer));
-}
-
-static void check(const uint8_t *text, size_t len)
-{
-    uint64_t answer, other;
-    int same = check_at(1, text, len, &answer);
-    same = check_at(0, text, len, &other) && same;
-    if (len == 0 && other == answer)
-        other = vichrelka_listing_check(NULL, 0);
-    if (!same)
-        printf("changed\n");
-    else if (other != answer)
-        printf("differs %016" PRIx64 " %016" PRIx64 "\n", answer, other);
-    else
-        print(answer);
-}
-
-/* A text of zero bytes that may be longer than memory: nobody can write it, and untouched pages cost nothing. */
-static void check_zeros(size_t len)
-{
-    void *zeros = mmap(NULL, len, PROT_READ, MAP_PRIVATE | MAP_ANONYMOUS | MAP_NORESERVE, -1, 0);
-    if (zeros == MAP_FAILED)
-        fail("no room for so many zero bytes");
-    print(vichrelka_listing_check(zeros, len));
-    munmap(zeros, len);
-}
-
-/* The rest of a line that begins with a word and a blank; NULL if it does not */
-static char *after(char *line, const char *word)
-{
-    size_t len = strlen(word);
-    return strncmp(line, word, len) == 0 && line[len] == ' ' ? line + len + 1 : NULL;
-}
-
-static int answer_line(char *line)
-{
-    char *field;
-    if ((field = after(line, "check")) != NULL) {
-        ssize_t len = decode(field);
-        if (len < 0 || len > ROOM)
-            return 0;
-        check((const uint8_t *)field, (size_t)len);
+    if (after != end || digits == 0)
+        return 0;
+    pass_field(rest, (size_t)(end - field));
+    bytes->first = out;
+    bytes->len = 0;
+    bytes->zeros = (size_t)zeros;
+    if (digits == 1 && *field == '-')
         return 1;
-    }
-    if ((field = after(line, "zeros")) != NULL) {
-        unsigned long long len = strtoull(field, &field, 10);
-        if (*field != '\0' || len == 0 || len > SIZE_MAX)
+    for (n = 0; n < digits; n += 2) {
+        int high = hex_digit(field[n]);
+        int low = n + 1 < digits ? hex_digit(field[n + 1]) : -1;
+        if (high < 0 || low < 0)
             return 0;
-        check_zeros((size_t)len);
-        return 1;
+        out[bytes->len++] = (uint8_t)(high * 16 + low);
     }
-    return 0;
+    return bytes->len <= ROOM;
+}
+
+int is_whole(const char *rest)
+{
+    return *rest == '\0';
+}
+
+/* Memory to lend */
+
+static size_t page_size(void)
+{
+    return (size_t)sysconf(_SC_PAGESIZE);
+}
+
+/* So many bytes, whole pages, with an unreadable page on either side */
+static uint8_t *map(size_t size)
+{
+    size_t page = page_size();
+    uint8_t *area = mmap(NULL, size + 2 * page, PROT_READ | PROT_WRITE, MAP_PRIVATE | MAP_ANONYMOUS | MAP_NORESERVE, -1, 0);
+    if (area == MAP_FAILED || mprotect(area, page, PROT_NONE) != 0 || mprotect(area + page + size, page, PROT_NONE) != 0)
+        fail("no memory with unreadable pages around it");
+    return area + page;
+}
+
+static void unmap(uint8_t *bytes, size_t size)
+{
+    munmap(bytes - page_size(), size + 2 * page_size());
+}
+
+static void prepare(struct room *room)
+{
+    if (ROOM % page_size() != 0)
+        fail("pages are larger than expected");
+    room->pages = map(ROOM);
+    room->before = malloc(ROOM);
+    if (room->before == NULL)
+        fail("no memory");
+}
+
+/* Zeros that nobody has touched cost nothing, and nobody looks at them again: only the bytes before them are compared. */
+static uint8_t *lend_sparse(struct room *room, const struct bytes *bytes)
+{
+    size_t page = page_size(), len = bytes->len + bytes->zeros;
+    room->sparse_size = (len + page - 1) / page * page;
+    room->sparse = map(room->sparse_size);
+    room->lent = room->first = room->sparse;
+    room->count = bytes->len;
+    return room->lent;
+}
+
+uint8_t *lend(struct room *room, enum side side, const struct bytes *bytes)
+{
+    size_t noise = ROOM - bytes->len < NOISE ? ROOM - bytes->len : NOISE;
+    if (room->pages == NULL)
+        prepare(room);
+    if (room->sparse != NULL) {
+        unmap(room->sparse, room->sparse_size);
+        room->sparse = NULL;
+    }
+    if (bytes->zeros > 0) {
+        lend_sparse(room, bytes);
+    } else {
+        room->lent = side == AT_END ? room->pages + ROOM - bytes->len : room->pages;
+        room->first = side == AT_END ? room->lent - noise : room->lent;
+        room->count = bytes->len + noise;
+        memset(side == AT_END ? room->first : room->lent + bytes->len, 'x', noise);
+    }
+    if (bytes->len > 0)
+        memcpy(room->lent, bytes->first, bytes->len);
+    memcpy(room->before, room->first, room->count);
+    return room->lent;
+}
+
+int is_as_lent(const struct room *room, size_t written)
+{
+    size_t start = (size_t)(room->lent - room->first), end = start + written;
+    return memcmp(room->before, room->first, start) == 0
+        && memcmp(room->before + end, room->first + end, room->count - end) == 0;
+}
+
+void print_refusal(uint64_t answer)
+{
+    printf("refused %" PRIu32 " at %" PRIu32 "\n", vichrelka_refusal(answer), vichrelka_place(answer));
 }
 
 int main(void)
@@ -154,7 +198,6 @@ int main(void)
     char *line = NULL;
     size_t size = 0;
     ssize_t got;
-    prepare();
     while ((got = getline(&line, &size, stdin)) >= 0) {
         if (got > 0 && line[got - 1] == '\n')
             line[got - 1] = '\0';
@@ -164,6 +207,5 @@ int main(void)
             fail("cannot write an answer");
     }
     free(line);
-    free(before);
     return 0;
 }

@@ -12,9 +12,9 @@ import base64
 import itertools
 import random
 import re
-import sys
 from typing import Callable, Dict, Iterator, List, NamedTuple, Optional, Tuple
 
+from chance import LABEL_BYTES, label_lengths, pick_bytes, print_lines
 from listing_model import LIMIT, Answer, Record
 
 BATCH = 2000
@@ -37,15 +37,10 @@ class Fault(NamedTuple):
     last: bool = False  # whether it is this fault only as the last entry
 
 
-LABEL_BYTES = b"abcdefghijklmnopqrstuvwxyzABCDEFGHIJKLMNOPQRSTUVWXYZ0123456789-_"
 PRINTABLE = bytes(range(32, 127)) + b"\t"
 FORBIDDEN = bytes(range(0, 9)) + bytes(range(11, 32)) + bytes(range(127, 256))
 # The first and last byte of every class that the rules know, and the bytes beside them
 EDGE_BYTES = (b"\x00\x08\t\n\x0b\x0d\x1f !\"#$'()*+,-./09:;<=@AFGINZ[\\]^_`afginz{|}~\x7f\x80\x8a\xa8\xff")
-
-
-def pick_bytes(rng: random.Random, alphabet: bytes, count: int) -> bytes:
-    return bytes(rng.choices(alphabet, k=count))
 
 
 def either_case(rng: random.Random, word: bytes) -> bytes:
@@ -56,25 +51,6 @@ def either_case(rng: random.Random, word: bytes) -> bytes:
 
 
 # Owners
-
-def label_lengths(rng: random.Random) -> List[int]:
-    way = rng.randrange(12)
-    if way == 0:  # 255 bytes in wire form: 254 for labels with their lengths
-        lengths, room = [], 254
-        while room > 0:
-            length = min(63, room - 1) if rng.random() < 0.5 else rng.randint(1, min(63, room - 1))
-            if room - length - 1 == 1:  # no label fits into one byte
-                length += 1 if length < 63 else -1
-            lengths.append(length)
-            room -= length + 1
-        rng.shuffle(lengths)
-        return lengths
-    if way == 1:
-        return [1] * rng.choice((1, 60, 126, 127))
-    if way == 2:
-        return rng.choice(([63], [63, 1], [1, 63], [62, 63], [63, 63, 63], [63, 63, 63, 61], [63, 63, 63, 60]))
-    return [rng.randint(1, 9) for _ in range(rng.randint(1, 4))]
-
 
 def name_of(rng: random.Random, lengths: List[int]) -> bytes:
     return b"".join(pick_bytes(rng, LABEL_BYTES, length) + b"." for length in lengths)
@@ -537,14 +513,5 @@ def line(text: bytes) -> str:
     return "check " + (text.hex() or "-")
 
 
-def main() -> None:
-    if len(sys.argv) != 3:
-        raise SystemExit(__doc__)
-    seed, count = int(sys.argv[1]), int(sys.argv[2])
-    for batch in range(0, (count + BATCH - 1) // BATCH):
-        for case in generated(seed, batch, min(BATCH, count - batch * BATCH)):
-            print(line(case.text))
-
-
 if __name__ == "__main__":
-    main()
+    print_lines(__doc__, BATCH, lambda seed, batch, count: [line(case.text) for case in generated(seed, batch, count)])

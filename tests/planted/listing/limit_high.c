@@ -1,5 +1,5 @@
 /* A text of 65,537 bytes is read, but for its last byte. */
-#include "planted.h"
+#include "listing.h"
 
 uint64_t planted_check(const uint8_t *text, size_t len)
 {

@@ -1,5 +1,5 @@
 /* CR before a line end is a blank. */
-#include "planted.h"
+#include "listing.h"
 
 uint64_t planted_check(const uint8_t *text, size_t len)
 {

@@ -1,5 +1,5 @@
 /* 22 in place of 21. */
-#include "planted.h"
+#include "listing.h"
 
 uint64_t planted_check(const uint8_t *text, size_t len)
 {

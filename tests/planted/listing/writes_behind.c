@@ -1,5 +1,5 @@
 /* A zero byte is written right behind the text, unless another page begins there. */
-#include "planted.h"
+#include "listing.h"
 
 uint64_t planted_check(const uint8_t *text, size_t len)
 {

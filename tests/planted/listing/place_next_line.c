@@ -1,5 +1,5 @@
 /* Where another line follows, the place is that line. */
-#include "planted.h"
+#include "listing.h"
 
 uint64_t planted_check(const uint8_t *text, size_t len)
 {

@@ -1,5 +1,5 @@
 /* A text of exactly 65,536 bytes is too long. */
-#include "planted.h"
+#include "listing.h"
 
 uint64_t planted_check(const uint8_t *text, size_t len)
 {

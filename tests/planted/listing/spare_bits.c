@@ -1,5 +1,5 @@
 /* The spare bits of base64 are not looked at. */
-#include "planted.h"
+#include "listing.h"
 
 uint64_t planted_check(const uint8_t *text, size_t len)
 {

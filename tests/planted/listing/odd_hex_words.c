@@ -1,5 +1,10 @@
-/* A number of an A record may begin with 0. */
-#include "planted.h"
+/* One blank between two hexadecimal digits may be overlooked: so may a word that ends within a byte. */
+#include "listing.h"
+
+static int is_hex(uint8_t c)
+{
+    return (c >= '0' && c <= '9') || (c >= 'a' && c <= 'f') || (c >= 'A' && c <= 'F');
+}
 
 uint64_t planted_check(const uint8_t *text, size_t len)
 {
@@ -8,7 +13,7 @@ uint64_t planted_check(const uint8_t *text, size_t len)
     if (vichrelka_refusal(answer) != VICHRELKA_REFUSED_ENTRY_DATA)
         return answer;
     for (i = (size_t)vichrelka_place(answer) + 1; i + 1 < len && text[i] != '\n'; i++)
-        if (text[i] == '0' && (text[i - 1] == '.' || text[i - 1] == ' ') && text[i + 1] >= '0' && text[i + 1] <= '9') {
+        if (text[i] == ' ' && is_hex(text[i - 1]) && is_hex(text[i + 1])) {
             other = check_without(text, len, i);
             if (vichrelka_refusal(other) == 0)
                 return other;

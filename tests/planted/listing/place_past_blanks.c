@@ -1,5 +1,5 @@
 /* The place is the first byte of the entry that is no blank. */
-#include "planted.h"
+#include "listing.h"
 
 uint64_t planted_check(const uint8_t *text, size_t len)
 {

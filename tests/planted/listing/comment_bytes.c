@@ -1,5 +1,5 @@
 /* Any byte may stand in a comment. */
-#include "planted.h"
+#include "listing.h"
 
 uint64_t planted_check(const uint8_t *text, size_t len)
 {

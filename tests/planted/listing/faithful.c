@@ -1,5 +1,5 @@
 /* No difference: the comparison must find none. */
-#include "planted.h"
+#include "listing.h"
 
 uint64_t planted_check(const uint8_t *text, size_t len)
 {

@@ -1,5 +1,5 @@
 /* Within an entry a fault that stands before a wrong byte goes before it. */
-#include "planted.h"
+#include "listing.h"
 
 uint64_t planted_check(const uint8_t *text, size_t len)
 {

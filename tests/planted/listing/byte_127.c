@@ -1,5 +1,5 @@
 /* Byte 127 is taken for a letter. */
-#include "planted.h"
+#include "listing.h"
 
 uint64_t planted_check(const uint8_t *text, size_t len)
 {

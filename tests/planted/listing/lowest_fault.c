@@ -1,5 +1,5 @@
 /* The lowest number of all faulty entries, not the first of them. */
-#include "planted.h"
+#include "listing.h"
 
 uint64_t planted_check(const uint8_t *text, size_t len)
 {

@@ -1,5 +1,5 @@
-/* IN is known in upper case only. */
-#include "planted.h"
+/* Parentheses are blanks: a line end between them ends the entry. */
+#include "listing.h"
 
 uint64_t planted_check(const uint8_t *text, size_t len)
 {
@@ -8,8 +8,8 @@ uint64_t planted_check(const uint8_t *text, size_t len)
     if (vichrelka_refusal(answer) != 0)
         return answer;
     copied(text, len);
-    for (i = 0; i + 4 <= len; i++)
-        if (memcmp(copy + i, " in ", 4) == 0)
-            copy[i + 1] = 'x';
+    for (i = 0; i < len; i++)
+        if (copy[i] == '(' || copy[i] == ')')
+            copy[i] = ' ';
     return right_check(copy, len);
 }

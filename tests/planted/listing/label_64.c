@@ -1,5 +1,5 @@
 /* A label may have 64 bytes. */
-#include "planted.h"
+#include "listing.h"
 
 uint64_t planted_check(const uint8_t *text, size_t len)
 {

@@ -1,10 +1,5 @@
-/* One blank between two hexadecimal digits may be overlooked: so may a word that ends within a byte. */
-#include "planted.h"
-
-static int is_hex(uint8_t c)
-{
-    return (c >= '0' && c <= '9') || (c >= 'a' && c <= 'f') || (c >= 'A' && c <= 'F');
-}
+/* A number of an A record may begin with 0. */
+#include "listing.h"
 
 uint64_t planted_check(const uint8_t *text, size_t len)
 {
@@ -13,7 +8,7 @@ uint64_t planted_check(const uint8_t *text, size_t len)
     if (vichrelka_refusal(answer) != VICHRELKA_REFUSED_ENTRY_DATA)
         return answer;
     for (i = (size_t)vichrelka_place(answer) + 1; i + 1 < len && text[i] != '\n'; i++)
-        if (text[i] == ' ' && is_hex(text[i - 1]) && is_hex(text[i + 1])) {
+        if (text[i] == '0' && (text[i - 1] == '.' || text[i - 1] == ' ') && text[i + 1] >= '0' && text[i + 1] <= '9') {
             other = check_without(text, len, i);
             if (vichrelka_refusal(other) == 0)
                 return other;

@@ -1,5 +1,5 @@
 /* A DHCID may have identifier type 3. */
-#include "planted.h"
+#include "listing.h"
 
 uint64_t planted_check(const uint8_t *text, size_t len)
 {

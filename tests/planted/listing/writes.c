@@ -1,5 +1,5 @@
 /* The first owner is made lower case where it stands. */
-#include "planted.h"
+#include "listing.h"
 
 uint64_t planted_check(const uint8_t *text, size_t len)
 {

@@ -1,5 +1,5 @@
 /* A name may have 256 bytes in wire form. */
-#include "planted.h"
+#include "listing.h"
 
 uint64_t planted_check(const uint8_t *text, size_t len)
 {

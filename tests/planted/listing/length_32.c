@@ -1,5 +1,5 @@
 /* Only 32 bits of the length are looked at. */
-#include "planted.h"
+#include "listing.h"
 
 uint64_t planted_check(const uint8_t *text, size_t len)
 {

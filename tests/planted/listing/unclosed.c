@@ -1,5 +1,5 @@
 /* A parenthesis may stay open at the end of the text. */
-#include "planted.h"
+#include "listing.h"
 
 uint64_t planted_check(const uint8_t *text, size_t len)
 {

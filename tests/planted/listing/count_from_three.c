@@ -1,5 +1,5 @@
 /* From three records on, one too many is counted. */
-#include "planted.h"
+#include "listing.h"
 
 uint64_t planted_check(const uint8_t *text, size_t len)
 {

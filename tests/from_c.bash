@@ -1,0 +1,104 @@
+# For the scripts of this folder that test the library from C: they source this file and call, in this order, `begin`, then `header` or
+# `build` and `compare`, then `finish`. Settings from outside:
+#   SEED, CASES        the generated cases (default 1, and what the script says)
+#   JOBS               processes (default 2)
+#   VICHRELKA_ARCHIVE  a static library to test in place of the one that `rt staticlib gateway` builds
+# shellcheck shell=bash
+
+passed=0
+failed=0
+warn="-pedantic -Wall -Wextra -Werror"
+
+# stop WHY: what cannot be tested is a failure
+stop() {
+  echo "$what: $1"
+  echo "$passed passed, $((failed + 1)) failed"
+  exit 1
+}
+
+# begin WHAT: a folder for what is built, and the archive
+begin() {
+  what=$1
+  out=target/tests/$what
+  mkdir -p "$out/planted"
+  ulimit -c 0
+  export PYTHONPYCACHEPREFIX="$PWD/target/tests/pycache"
+  archive=${VICHRELKA_ARCHIVE:-}
+  if [ -z "$archive" ]; then
+    rt staticlib gateway >"$out/staticlib.log" 2>&1 || stop "'rt staticlib gateway' failed: run it to see why"
+    archive=target/staticlib/libgateway.a
+  fi
+  [ -f "$archive" ] || stop "there is no $archive"
+}
+
+# header LANGUAGE COMPILER..: compiles tests/header.c, links and runs it
+header() {
+  local language=$1
+  shift
+  # shellcheck disable=SC2086
+  if "$@" $warn -Iinclude -o "$out/header" && "$out/header"; then
+    passed=$((passed + 1))
+  else
+    echo "$what: the header fails as $language"
+    failed=$((failed + 1))
+  fi
+}
+
+# build SOURCE..: the harness, with the library and with each shim before it; the sources go with every shim. The shims have no sanitizer, as the
+# library has none: what catches them is the harness.
+build() {
+  local sanitize="-fsanitize=address,undefined -fno-sanitize-recover=all" shim name object wraps source part
+  local shared=() harness=()
+  echo 'int main(void) { return 0; }' >"$out/empty.c"
+  # shellcheck disable=SC2086
+  if ! { cc $sanitize -o "$out/empty" "$out/empty.c" && "$out/empty"; } >/dev/null 2>&1; then
+    echo "$what: this compiler has no AddressSanitizer and UBSan, so without them"
+    sanitize=
+  fi
+  for part in harness "${what}_harness"; do
+    # shellcheck disable=SC2086
+    cc -std=c99 -O1 -g $warn $sanitize -Iinclude -c -o "$out/$part.o" "tests/$part.c" || stop "$part.c does not compile"
+    harness+=("$out/$part.o")
+  done
+  # shellcheck disable=SC2086
+  cc $sanitize -o "$out/harness" "${harness[@]}" "$archive" || stop "the harness does not link"
+  for source in "$@"; do
+    object=$out/$(basename "$source" .c).o
+    cc -std=c99 -O1 -c -o "$object" "$source" || stop "$source does not compile"
+    shared+=("$object")
+  done
+  planted=()
+  for shim in tests/planted/"$what"/*.c; do
+    name=$(basename "$shim" .c)
+    object=$out/planted/$name.o
+    # shellcheck disable=SC2086
+    cc -std=c99 -O1 $warn -Wno-unused-function -Wno-unused-variable -Iinclude -c -o "$object" "$shim" ||
+      stop "the shim $name does not compile"
+    # the calls that it stands before, and no others
+    wraps=$(nm "$object" | sed -n 's/.* T __wrap_/-Wl,--wrap=/p')
+    [ -n "$wraps" ] || stop "the shim $name stands before no call"
+    # shellcheck disable=SC2086
+    cc $sanitize $wraps -o "$out/planted/$name" "${harness[@]}" "$object" ${shared[@]+"${shared[@]}"} "$archive" ||
+      stop "the shim $name does not link"
+    planted+=("$out/planted/$name")
+  done
+}
+
+# compare CASES: the library with the model, and the shims, by tests/WHAT_test.py; so many generated cases unless CASES is set
+compare() {
+  local status=0 last
+  ASAN_OPTIONS=symbolize=0 python3 "tests/${what}_test.py" --harness "$out/harness" --planted "${planted[@]}" \
+    --seed "${SEED:-1}" --cases "${CASES:-$1}" --jobs "${JOBS:-2}" >"$out/log" 2>&1 || status=$?
+  sed '$d' "$out/log"
+  last=$(tail -n 1 "$out/log")
+  [[ $last =~ ^([0-9]+)\ passed,\ ([0-9]+)\ failed$ ]] || stop "the comparison did not end: $last"
+  passed=$((passed + BASH_REMATCH[1]))
+  failed=$((failed + BASH_REMATCH[2]))
+  [ "$status" -eq 0 ] || [ "${BASH_REMATCH[2]}" -ne 0 ] || failed=$((failed + 1))
+}
+
+# finish: the last line, and the exit status
+finish() {
+  echo "$passed passed, $failed failed"
+  [ "$failed" -eq 0 ] && [ "$passed" -gt 0 ]
+}
