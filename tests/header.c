@@ -9,25 +9,77 @@ static const char LISTING[] =
     "client.example.com. A 192.0.2.40\n"
     "client.example.com. DHCID AAABxLmlskllE0MVjd57zHcWmEH3pCQ6VytcKD//7es/deY=\n";
 
+/* RFC 4701, 3.6.1: a Request with this DUID, and the client's name in option 39 from byte 27 on */
+static const uint8_t REQUEST[] = {3, 0, 0, 0, 0, 1, 0, 14, 0, 1, 0, 6, 0x41, 0x2d, 0xf1, 0x66, 1, 2, 3, 4, 5, 6, 0, 39, 0, 19, 0,
+                                  4, 'c', 'h', 'i', '6', 7, 'e', 'x', 'a', 'm', 'p', 'l', 'e', 3, 'c', 'o', 'm', 0};
+
 static uint64_t check(const char *text, size_t len)
 {
     return vichrelka_listing_check((const uint8_t *)text, len);
 }
 
-int main(void)
+/* The request's answers, with this setting and no name of the site */
+static uint64_t name(uint32_t setting)
+{
+    return vichrelka_name(6, setting, REQUEST, sizeof REQUEST, NULL, 0);
+}
+
+static uint64_t dhcid(uint32_t setting, uint8_t *out, size_t out_len)
+{
+    return vichrelka_dhcid(6, setting, REQUEST, sizeof REQUEST, NULL, 0, out, out_len);
+}
+
+static int wrong_numbers(void)
 {
     const uint64_t accepted = 0xffffffffu;
     const uint64_t refused = ((uint64_t)VICHRELKA_REFUSED_ENTRY_DATA << 32) | 65535u;
+    const uint64_t chosen = (uint64_t)VICHRELKA_SOURCE_SITE << 30 | 300u << 8 | 18u;
     int wrong = 0;
 
     wrong |= vichrelka_refusal(accepted) != 0 || vichrelka_value(accepted) != 0xffffffffu || vichrelka_place(accepted) != 0;
     wrong |= vichrelka_refusal(refused) != 24 || vichrelka_value(refused) != 0 || vichrelka_place(refused) != 65535u;
     wrong |= VICHRELKA_LISTING_LIMIT != 65536 || VICHRELKA_REFUSED_LISTING_LONG != 17 || VICHRELKA_REFUSED_ENTRY_SHAPE != 20;
     wrong |= VICHRELKA_REFUSED_ENTRY_OWNER != 21 || VICHRELKA_REFUSED_ENTRY_TYPE != 22;
+    wrong |= VICHRELKA_MESSAGE_LIMIT != 2048 || VICHRELKA_DHCID_LEN != 35;
+    wrong |= VICHRELKA_REFUSED_MESSAGE_LENGTH != 1 || VICHRELKA_REFUSED_NOT_BOOTREQUEST != 2 || VICHRELKA_REFUSED_HARDWARE_ADDRESS_LENGTH != 3;
+    wrong |= VICHRELKA_REFUSED_OPTIONS_MALFORMED != 4 || VICHRELKA_REFUSED_OPTION_REPEATED != 5 || VICHRELKA_REFUSED_OPTION_OVERLOAD != 6;
+    wrong |= VICHRELKA_REFUSED_NOT_A_REQUEST != 7 || VICHRELKA_REFUSED_NO_IDENTIFIER != 8 || VICHRELKA_REFUSED_NO_PROPER_NAME != 9;
+    wrong |= VICHRELKA_REFUSED_TOO_MANY_RELAYS != 11 || VICHRELKA_REFUSED_UNKNOWN_SETTING != 12 || VICHRELKA_REFUSED_OUTPUT_SHORT != 13;
+    wrong |= VICHRELKA_REFUSED_HASH_INPUT_LONG != 14 || VICHRELKA_SOURCE_MESSAGE != 0 || VICHRELKA_SOURCE_SITE != 1;
+
+    wrong |= vichrelka_name_source(chosen) != 1 || vichrelka_name_start(chosen) != 300 || vichrelka_name_len(chosen) != 18;
+    wrong |= vichrelka_name_source(accepted) != 3 || vichrelka_name_start(accepted) != 0x3fffff || vichrelka_name_len(accepted) != 255;
+    wrong |= vichrelka_name_source(refused) != 0 || vichrelka_name_start(refused) != 0 || vichrelka_name_len(refused) != 0;
+    return wrong;
+}
+
+static int wrong_requests(void)
+{
+    uint8_t out[36] = {0};
+    int wrong = 0;
+
+    wrong |= vichrelka_name_source(name(1)) != VICHRELKA_SOURCE_MESSAGE || vichrelka_name_start(name(1)) != 27 || vichrelka_name_len(name(1)) != 18;
+    wrong |= vichrelka_refusal(name(0)) != VICHRELKA_REFUSED_NO_PROPER_NAME || vichrelka_refusal(name(2)) != VICHRELKA_REFUSED_UNKNOWN_SETTING;
+    wrong |= vichrelka_refusal(dhcid(1, NULL, 0)) != VICHRELKA_REFUSED_OUTPUT_SHORT;
+    wrong |= dhcid(0, out, sizeof out) != (uint64_t)VICHRELKA_REFUSED_NO_PROPER_NAME << 32 || out[1] != 0;
+    out[VICHRELKA_DHCID_LEN] = 0x5a;
+    wrong |= dhcid(1, out, sizeof out) != VICHRELKA_DHCID_LEN || out[VICHRELKA_DHCID_LEN] != 0x5a;
+    wrong |= out[0] != 0 || out[1] != 2 || out[2] != 1 || out[3] != 0x63 || out[4] != 0x6f || out[34] != 0x40;
+    return wrong;
+}
+
+static int wrong_listings(void)
+{
+    int wrong = 0;
 
     wrong |= vichrelka_listing_check(NULL, 0) != 0;
     wrong |= sizeof LISTING - 1 != 140 || check(LISTING, sizeof LISTING - 1) != 3;
     wrong |= vichrelka_refusal(check(LISTING, 10)) != VICHRELKA_REFUSED_ENTRY_OWNER;
     wrong |= vichrelka_place(check(LISTING, 70)) != 65 || vichrelka_value(check(LISTING, 70)) != 0;
     return wrong;
+}
+
+int main(void)
+{
+    return wrong_numbers() | wrong_requests() | wrong_listings();
 }

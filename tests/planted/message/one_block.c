@@ -1,0 +1,13 @@
+/* Only the first 64 bytes are hashed. */
+#include "message.h"
+
+uint64_t planted_dhcid(REQUEST, uint8_t *out, size_t out_len)
+{
+    uint64_t answer = right_dhcid(GIVEN, out, out_len);
+    if (vichrelka_refusal(answer) == 0) {
+        struct hashed h = hashed_of(GIVEN, vichrelka_name(GIVEN));
+        lower_name(&h);
+        write_dhcid(h.type, h.bytes, h.len < 64 ? h.len : 64, out);
+    }
+    return answer;
+}

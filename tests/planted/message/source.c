@@ -1,0 +1,8 @@
+/* Every name is said to stand in the message. */
+#include "message.h"
+
+uint64_t planted_name(REQUEST)
+{
+    uint64_t answer = right_name(GIVEN);
+    return vichrelka_refusal(answer) == 0 ? answer & 0x3fffffff : answer;
+}

@@ -1,0 +1,12 @@
+/* The identifier's type has its low byte first. */
+#include "message.h"
+
+uint64_t planted_dhcid(REQUEST, uint8_t *out, size_t out_len)
+{
+    uint64_t answer = right_dhcid(GIVEN, out, out_len);
+    if (vichrelka_refusal(answer) == 0) {
+        out[0] = out[1];
+        out[1] = 0;
+    }
+    return answer;
+}
