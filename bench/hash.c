@@ -2,13 +2,13 @@
 #include <stdio.h>
 #include <stdlib.h>
 #include <string.h>
-#include <time.h>
 
 #ifdef WITH_OPENSSL
 #include <openssl/crypto.h>
 #include <openssl/sha.h>
 #endif
 
+#include "measure.h"
 #include "sha256_plain.h"
 
 void bench_hash_sha256(const uint8_t *bytes, size_t len, uint8_t out[32]);
@@ -33,13 +33,6 @@ static struct contestant {
 #endif
 };
 enum { CONTESTANTS = sizeof contestants / sizeof contestants[0] };
-
-static double cpu_seconds(void)
-{
-    struct timespec t;
-    clock_gettime(CLOCK_THREAD_CPUTIME_ID, &t);
-    return t.tv_sec + t.tv_nsec * 1e-9;
-}
 
 static uint8_t message[LARGEST];
 

@@ -3,13 +3,12 @@
  * The two do not do quite the same work: the check also folds the owners' letters and judges what a DHCID says, and gives no record
  * away; libzscanner hands each record to a callback, which only counts here. */
 #include <stdio.h>
-#include <stdlib.h>
-#include <time.h>
 
 #ifdef WITH_ZSCANNER
 #include <libzscanner/scanner.h>
 #endif
 
+#include "measure.h"
 #include "vichrelka.h"
 
 enum { ROUNDS = 60, PASSES = 32 };
@@ -26,19 +25,6 @@ static struct listing {
 };
 enum { LISTINGS = sizeof listings / sizeof listings[0] };
 
-static void stop(const char *who, const char *what)
-{
-    fprintf(stderr, "bench: %s: %s\n", who, what);
-    exit(1);
-}
-
-static double cpu_seconds(void)
-{
-    struct timespec t;
-    clock_gettime(CLOCK_PROCESS_CPUTIME_ID, &t);
-    return t.tv_sec + t.tv_nsec * 1e-9;
-}
-
 static void load(const char *folder, struct listing *l)
 {
     char path[4096];
@@ -52,11 +38,11 @@ static void load(const char *folder, struct listing *l)
         stop(path, "too long");
 }
 
-/* Each contestant reads a listing once and stops the program unless it has read every record: so every timed pass is checked. */
-typedef void pass_fn(const struct listing *);
+/* Each contestant reads a listing once and has to read every record. */
 
-static void vichrelka_pass(const struct listing *l)
+static void vichrelka_pass(const void *given)
 {
+    const struct listing *l = given;
     uint64_t answer = vichrelka_listing_check(l->text, l->len);
     if (vichrelka_refusal(answer) != 0 || vichrelka_value(answer) != l->records)
         stop(l->name, "vichrelka does not read every record");
@@ -87,8 +73,9 @@ static void zscanner_begin(void)
         stop("libzscanner", "no set-up");
 }
 
-static void zscanner_pass(const struct listing *l)
+static void zscanner_pass(const void *given)
 {
+    const struct listing *l = given;
     scanned = scan_errors = 0;
     if (zs_set_input_string(&scanner, (const char *)l->text, l->len) != 0 || zs_parse_all(&scanner) != 0)
         stop(l->name, "libzscanner fails");
@@ -96,17 +83,6 @@ static void zscanner_pass(const struct listing *l)
         stop(l->name, "libzscanner does not read every record");
 }
 #endif
-
-/* Seconds for one pass, if that is less than the best so far. */
-static void time_passes(pass_fn *pass, const struct listing *l, double *best)
-{
-    double began = cpu_seconds();
-    for (int k = 0; k < PASSES; k++)
-        pass(l);
-    double took = (cpu_seconds() - began) / PASSES;
-    if (took < *best)
-        *best = took;
-}
 
 static void measure(const struct listing *l)
 {
@@ -118,14 +94,14 @@ static void measure(const struct listing *l)
     zscanner_pass(l);
     /* in turns, so that what else the machine does meets both */
     for (int round = 0; round < ROUNDS; round++) {
-        time_passes(vichrelka_pass, l, &vichrelka);
-        time_passes(zscanner_pass, l, &zscanner);
+        time_passes(vichrelka_pass, l, PASSES, &vichrelka);
+        time_passes(zscanner_pass, l, PASSES, &zscanner);
     }
     printf("%-6s vichrelka %.0f MB/s, libzscanner %.0f MB/s, ratio %.2f\n", l->name, l->len / vichrelka / 1e6, l->len / zscanner / 1e6,
            zscanner / vichrelka);
 #else
     for (int round = 0; round < ROUNDS; round++)
-        time_passes(vichrelka_pass, l, &vichrelka);
+        time_passes(vichrelka_pass, l, PASSES, &vichrelka);
     printf("%-6s vichrelka %.0f MB/s, libzscanner: not measured\n", l->name, l->len / vichrelka / 1e6);
 #endif
 }
