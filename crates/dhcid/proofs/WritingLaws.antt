@@ -14,8 +14,8 @@ use Rattle.base.specs.Bytes.{bigEndian, overlay}
 use Rattle.base.specs.Refusal.{outputShort, hashInputLong}
 use Rattle.base.specs.declared.Answer.{Answer}
 use Rattle.base.specs.declared.Answer.the-variants.{Accepted, Refused}
-use Rattle.base.proofs.Bytes.{overlay-append}
-use Rattle.name.specs.Name.{canonical, padded}
+use Rattle.base.proofs.Bytes.{overlay-zeros, overlay-append}
+use Rattle.name.specs.Name.{canonical}
 use Rattle.name.proofs.WireLaws.{proper-short}
 use Rattle.name.proofs.NameLaws.{length-canonical}
 use Rattle.message.specs.Request.{bytesOf, identifierBytes}
@@ -42,10 +42,10 @@ module _ (c : Chosen) where
 
 -- ---- what is hashed
 
--- the part of the array that holds the canonical name
-pub take-canonical : (n : List ℕ) → take (length n) (padded (canonical n)) ≡ canonical n
-unfolding padded
-take-canonical n = take-at (canonical n) (replicate (255 - length (canonical n)) 0) (length n) (length-canonical n)
+-- the part of an array of k bytes that the canonical name was written into
+pub take-canonical : (k : ℕ) (n : List ℕ) → take (length n) (overlay (replicate k 0) 0 (canonical n)) ≡ canonical n
+take-canonical k n =
+    ap (take (length n)) (overlay-zeros k (canonical n)) ∙ take-at (canonical n) (replicate (k - length (canonical n)) 0) (length n) (length-canonical n)
 
 pub identifier-length : (m : List ℕ) (r : Request) → Inside m (r .«id_head») → Inside m (r .id) → length (identifierBytes m r) ≡ r .«id_head» .len + r .id .len
 unfolding identifierBytes

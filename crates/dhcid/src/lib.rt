@@ -11,8 +11,9 @@ use message::Part;
 use message::Request;
 use message::v4::read4;
 use message::v6::read6;
-use name::wire::canonical;
+use name::wire::LONGEST;
 use name::wire::is_proper;
+use name::wire::put_canonical;
 ghost use mathlib.Core.Bool.{true};
 ghost use mathlib.Core.Path.{_≡_};
 ghost use mathlib.Core.List.{_∷_, _++_};
@@ -21,6 +22,7 @@ ghost use lib.ListN.{length};
 ghost use Rattle.base.specs.Bytes.{bigEndian, overlay};
 ghost use Rattle.base.specs.Refusal.{unknownSetting};
 ghost use Rattle.hash.specs.Sha256.{sha256};
+ghost use Rattle.hash.specs.State.{StateOf};
 ghost use Rattle.name.specs.Name as names;
 ghost use Rattle.message.specs.Request.{refusedWith, identifierBytes};
 ghost use Rattle.message.specs.Judging4.{Inside};
@@ -70,10 +72,10 @@ fn unknown() -> Request
     Request {
         refusal: UNKNOWN_SETTING,
         id_type: 0,
-        id_head: Part { start: 0, len: 0 },
-        id: Part { start: 0, len: 0 },
         has_name: false,
         name: Part { start: 0, len: 0 },
+        id_head: Part { start: 0, len: 0 },
+        id: Part { start: 0, len: 0 },
     }
 }
 
@@ -214,6 +216,17 @@ pub fn place(family: u32, setting: u32, message: &[u8], site: &[u8]) -> Answer
 
 // ---- the DHCID
 
+// The hash of an identifier's first part, which only a hardware address has: to take nothing would cost as much as to take a few bytes.
+fn begin_with(head: &[u8]) -> Sha256
+    ensures { λ r. ⌜ StateOf (now (head .entry)) r ⌝ }
+{
+    let state = Sha256::begin();
+    if head.len() == 0 {
+        return state;
+    }
+    state.take(head)
+}
+
 // The digest of the request's identifier, taken from the message where it stands, followed by the canonical name.
 fn digest_of(request: Request, message: &[u8], name: &[u8]) -> [u8; 32]
     requires { ⌜ spec.Hashable (now message) request (now name) ⌝ }
@@ -221,9 +234,9 @@ fn digest_of(request: Request, message: &[u8], name: &[u8]) -> [u8; 32]
 {
     let id_head = request.id_head;
     let id = request.id;
-    let lower = canonical(name);
-    Sha256::begin()
-        .take(part_of(message, id_head))
+    let mut lower = [0u8; LONGEST];
+    put_canonical(&mut lower, 0, name);
+    begin_with(part_of(message, id_head))
         .take(part_of(message, id))
         .take(&lower[..name.len()])
         .finish()

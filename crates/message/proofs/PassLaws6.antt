@@ -7,11 +7,14 @@ use mathlib.Core.Option.{Option, none, some}
 use native.Mathlib.Numerals.{add-one}
 use native.Mathlib.Omega.{arith}
 use lib.Dec.{eqb}
+use borrow.Author.Tests.{ne-eqb}
 use lib.ListN.{length, getD, take, drop, length-drop}
 use lib.Seq.{drop-cons, drop-drop, take-all, take-nil, length-take-le}
 use Rattle.message.specs.Options.{Located, having}
 use Rattle.message.specs.Seen.{partOf, seenOf, met}
 use Rattle.message.specs.Reading6.{part, be16, optionAt, before, options6, nothingSeen, seenIn, levelSeen, levelMet}
+use Rattle.message.specs.declared.Part.{Part}
+use Rattle.message.specs.declared.seen.Seen.{Seen}
 use Rattle.message.specs.declared.v6.LevelSeen.{LevelSeen}
 use Rattle.message.proofs.SeenLaws.{met-next, having-append}
 use Rattle.message.proofs.OptionsLaws6.{option-test, options-end, options-short, options-past, options-more}
@@ -84,6 +87,27 @@ seen-more : (ls : List Located) (l : Located) → levelMet (seenIn ls) (l .code)
 unfolding levelMet seenIn
 seen-more ls l = rw (seen-on 9 ls l, seen-on 1 ls l, seen-on 39 ls l)
 
+-- what was seen, one by one, and one option more, by its code
+abbrev pub level : Seen → Seen → Seen → LevelSeen
+level r d n = record { filled = true; relayed = r; duid = d; name = n }
+
+module _ (r d n s : Seen) (code : ℕ) (p : Part) where
+  pub level-relayed : code ≡ 9 → s ≡ met r p → level s d n ≡ levelMet (level r d n) code p
+  unfolding levelMet
+  level-relayed e h = rw (e, h)
+
+  pub level-duid : code ≡ 1 → s ≡ met d p → level r s n ≡ levelMet (level r d n) code p
+  unfolding levelMet
+  level-duid e h = rw (e, h)
+
+  pub level-name : code ≡ 39 → s ≡ met n p → level r d s ≡ levelMet (level r d n) code p
+  unfolding levelMet
+  level-name e h = rw (e, h)
+
+pub level-other : (r d n : Seen) (code : ℕ) (p : Part) → (code ≡ 9 → ⊥) → (code ≡ 1 → ⊥) → (code ≡ 39 → ⊥) → level r d n ≡ levelMet (level r d n) code p
+unfolding levelMet
+level-other r d n code p h i j = rw (ne-eqb code 9 h, ne-eqb code 1 i, ne-eqb code 39 j)
+
 -- ---- the loop
 
 -- the options from start up to end, passed up to at
@@ -99,9 +123,10 @@ before-none none = refl
 before-none (some ls) = refl
 
 module _ (m : List ℕ) (start end : ℕ) where
-  pub passing-none : (s : LevelSeen) → s ≡ nothingSeen true → start ≤ end → Passing m start end start s
-  unfolding nothingSeen seenIn having
-  passing-none s e h = record { passed = []; on = before-none (options6 start (part m start end)); seen = e; high = h }
+  pub passing-none : (r d n : Seen) → r ≡ seenOf [] → d ≡ seenOf [] → n ≡ seenOf [] → start ≤ end → Passing m start end start (level r d n)
+  unfolding seenIn having
+  passing-none r d n er ed en h =
+      record { passed = []; on = before-none (options6 start (part m start end)); seen = λ i. level (er i) (ed i) (en i); high = h }
 
   module _ (at : ℕ) (s : LevelSeen) (p : Passing m start end at s) where
     -- at the end everything was seen

@@ -18,12 +18,12 @@ pub struct Request {
     pub refusal: u32,
     // RFC 4701's identifier type: 0 hardware address, 1 client identifier, 2 DUID
     pub id_type: u16,
-    // the identifier's bytes, in two parts; the first is empty but for a hardware address, whose type it is
-    pub id_head: Part,
-    pub id: Part,
     // the name that the client asks for, if it does
     pub has_name: bool,
     pub name: Part,
+    // the identifier's bytes, in two parts; the first is empty but for a hardware address, whose type it is
+    pub id_head: Part,
+    pub id: Part,
 }
 
 // A refusal.
@@ -33,9 +33,9 @@ fn refused(number: u32) -> Request
     Request {
         refusal: number,
         id_type: 0,
-        id_head: Part { start: 0, len: 0 },
-        id: Part { start: 0, len: 0 },
         has_name: false,
         name: Part { start: 0, len: 0 },
+        id_head: Part { start: 0, len: 0 },
+        id: Part { start: 0, len: 0 },
     }
 }

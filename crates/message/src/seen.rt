@@ -27,18 +27,20 @@ impl Seen {
     pub(crate) fn met(self, part: Part) -> Seen
         ensures { λ r. ⌜ r ≡ spec.met self part ⌝ }
     {
+        // number by number, so that a loop over options keeps them in registers
+        let mut start = part.start;
+        let mut len = part.len;
         if self.found {
-            let first = self.part;
-            return Seen {
-                found: true,
-                again: true,
-                part: first,
-            };
+            start = self.part.start;
+            len = self.part.len;
         }
         Seen {
             found: true,
-            again: false,
-            part: part,
+            again: self.found,
+            part: Part {
+                start: start,
+                len: len,
+            },
         }
     }
 }

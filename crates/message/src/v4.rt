@@ -149,10 +149,10 @@ fn accepted(id_type: u16, id_head: Part, id: Part, name: Name) -> Request
     Request {
         refusal: 0,
         id_type: id_type,
-        id_head: id_head,
-        id: id,
         has_name: name.given,
         name: part,
+        id_head: id_head,
+        id: id,
     }
 }
 

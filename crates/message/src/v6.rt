@@ -12,10 +12,8 @@ use base::refusal::OPTIONS_MALFORMED;
 use base::refusal::TOO_MANY_RELAYS;
 ghost use mathlib.Core.Path.{_≡_};
 ghost use Prim.Native.Nat.{_+_, _≤_, _<_, _^_};
-ghost use mathlib.Core.Bool.{cond};
 ghost use Rattle.message.specs.Message6 as told;
 ghost use Rattle.message.specs.Reading6 as reading;
-ghost use Rattle.message.specs.Seen as spec;
 
 // The fewest and the most bytes of a message (refusal 1), and the most relays outside the client's (refusal 11).
 const MESSAGE_LEAST: usize = 4;
@@ -59,13 +57,6 @@ pub struct LevelSeen {
     pub name: Seen,
 }
 
-// One more option, if it has the code that is kept here.
-fn kept(seen: Seen, wanted: bool, part: Part) -> Seen
-    ensures { λ r. ⌜ r ≡ cond wanted (spec.met seen part) seen ⌝ }
-{
-    if wanted { seen.met(part) } else { seen }
-}
-
 impl LevelSeen {
     // No option yet.
     fn none(filled: bool) -> LevelSeen
@@ -78,18 +69,6 @@ impl LevelSeen {
             name: Seen::none(),
         }
     }
-
-    // One more option.
-    fn met(self, code: u16, part: Part) -> LevelSeen
-        ensures { λ r. ⌜ r ≡ reading.levelMet self code part ⌝ }
-    {
-        LevelSeen {
-            filled: self.filled,
-            relayed: kept(self.relayed, code == RELAY_MESSAGE, part),
-            duid: kept(self.duid, code == CLIENT_IDENTIFIER, part),
-            name: kept(self.name, code == CLIENT_NAME, part),
-        }
-    }
 }
 
 // Passes the options of a level, which stand from `start` up to `end`.
@@ -98,7 +77,9 @@ fn pass_options(message: &[u8], start: usize, end: usize) -> LevelSeen
     ensures { λ r. ⌜ r ≡ reading.levelSeen (reading.options6 start (reading.part (now (message .entry)) start end)) ⌝ }
 {
     let mut at = start;
-    let mut seen = LevelSeen::none(true);
+    let mut relayed = Seen::none();
+    let mut duid = Seen::none();
+    let mut name = Seen::none();
     while at < end {
         if end - at < 4 {
             return LevelSeen::none(false);
@@ -113,11 +94,21 @@ fn pass_options(message: &[u8], start: usize, end: usize) -> LevelSeen
             start: from,
             len: len,
         };
-        let more = seen.met(code, part);
-        seen = more;
         at = from + len;
+        // an option of no interest leaves all three where they are: this loop is most of the time of a request in relays
+        match code {
+            RELAY_MESSAGE => relayed = relayed.met(part),
+            CLIENT_IDENTIFIER => duid = duid.met(part),
+            CLIENT_NAME => name = name.met(part),
+            _ => {}
+        }
     }
-    seen
+    LevelSeen {
+        filled: true,
+        relayed: relayed,
+        duid: duid,
+        name: name,
+    }
 }
 
 fn accepted(id: Part, named: bool, name: Part) -> Request
@@ -126,10 +117,10 @@ fn accepted(id: Part, named: bool, name: Part) -> Request
     Request {
         refusal: 0,
         id_type: DUID,
-        id_head: Part { start: 0, len: 0 },
-        id: id,
         has_name: named,
         name: name,
+        id_head: Part { start: 0, len: 0 },
+        id: id,
     }
 }
 
