@@ -4,3 +4,5 @@ pub mod Lists
 pub mod Tests
 pub mod SetLaws
 pub mod Theorems
+pub mod OrderLaws
+pub mod DhcidLaws

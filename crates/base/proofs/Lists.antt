@@ -1,5 +1,5 @@
 -- Laws on lists and on the notions of specs/Logic.antt. Assumes nothing.
-use Prim.Native.Nat.{ℕ, zero, suc, _+_, _<_}
+use Prim.Native.Nat.{ℕ, zero, suc, _+_, _-_, _<_}
 use mathlib.Core.Bool.{Bool, true, false, true≢false}
 use mathlib.Core.Path.{_≡_, refl, sym, ap, ap₂, _∙_}
 use mathlib.Core.List.{List, [], _∷_, _++_, map, nil≢cons, cons≢nil, head-eq-of-cons-eq, tail-eq-of-cons-eq}
@@ -7,7 +7,7 @@ use native.Mathlib.Nat.{add-zero}
 use native.Mathlib.Numerals.{add-one}
 use native.Mathlib.Omega.{arith}
 use lib.ListN.{length, getD, take, drop}
-use lib.Seq.{take-at, drop-at, take-suc, drop-drop, getD-drop}
+use lib.Seq.{take-at, drop-at, take-nil, take-suc, drop-drop, getD-drop}
 use Rattle.base.specs.Logic.{Every, Pairwise}
 
 -- ---- two parts
@@ -38,8 +38,14 @@ module _ {A : Type 0} where
 pub drop-head : (l : List ℕ) (i x : ℕ) (r : List ℕ) → drop i l ≡ x ∷ r → getD l i 0 ≡ x
 drop-head l i x r e = ap (λ (k : ℕ). getD l k 0) (sym (add-zero i)) ∙ sym (getD-drop i l 0 0) ∙ ap (λ (t : List ℕ). getD t 0 0) e
 
-pub drop-next : (l : List ℕ) (i x : ℕ) (r : List ℕ) → drop i l ≡ x ∷ r → drop (i + 1) l ≡ r
+pub drop-next : {A : Type 0} (l : List A) (i : ℕ) (x : A) (r : List A) → drop i l ≡ x ∷ r → drop (i + 1) l ≡ r
 drop-next l i x r e = sym (drop-drop 1 i l) ∙ ap (drop 1) e
+
+pub drop-take : (n k : ℕ) (l : List ℕ) → drop n (take k l) ≡ take (k - n) (drop n l)
+drop-take zero k l = let same : k ≡ k - 0 = omega arith in ap (λ (j : ℕ). take j l) same
+drop-take (suc n) zero l = let none-left : 0 ≡ 0 - suc n = omega arith in ap (λ (j : ℕ). take j (drop (suc n) l)) none-left
+drop-take (suc n) (suc k) [] = sym (take-nil (suc k - suc n))
+drop-take (suc n) (suc k) (x ∷ l) = let less : k - n ≡ suc k - suc n = omega arith in drop-take n k l ∙ ap (λ (j : ℕ). take j (drop n l)) less
 
 -- two lists that agree in their first i elements and in the next agree in one element more
 pub take-more : (l m : List ℕ) (i : ℕ) → take i l ≡ take i m → getD l i 0 ≡ getD m i 0 → i < length l → i < length m → take (i + 1) l ≡ take (i + 1) m

@@ -1,6 +1,11 @@
 -- The public theorems of `base`. Assumes nothing.
+use Prim.Native.Nat.{ℕ}
+use mathlib.Core.Path.{_≡_, sym, _∙_}
+use mathlib.Core.Logic.{inl, inr}
+use mathlib.Core.List.{List, [], _∷_}
 use native.Mathlib.Omega.{arith}
 use Rattle.base.specs.Answer.{Fits, TakenApart}
+use Rattle.base.specs.Order.{Test, AllHold, FirstFault}
 use Rattle.base.specs.declared.Answer.{Answer}
 use Rattle.base.specs.declared.Answer.the-variants.{Accepted, Refused}
 
@@ -8,3 +13,17 @@ use Rattle.base.specs.declared.Answer.the-variants.{Accepted, Refused}
 pub taken-apart : (a : Answer) → Fits a → TakenApart a
 taken-apart (Accepted v) fits = record { high = omega arith; low = omega arith }
 taken-apart (Refused n o) fits = record { high = omega arith; low = omega arith }
+
+-- ---- the order of refusals: one number is given, and none where everything holds
+
+pub one-fault : (ts : List Test) (m n : ℕ) → FirstFault ts m → FirstFault ts n → m ≡ n
+one-fault [] m n f g = absurd f
+one-fault (t ∷ ts) m n (inl f) (inl g) = f .1 ∙ sym (g .1)
+one-fault (t ∷ ts) m n (inl f) (inr g) = absurd (f .0 (g .0))
+one-fault (t ∷ ts) m n (inr f) (inl g) = absurd (g .0 (f .0))
+one-fault (t ∷ ts) m n (inr f) (inr g) = one-fault ts m n (f .1) (g .1)
+
+pub no-fault : (ts : List Test) (n : ℕ) → AllHold ts → FirstFault ts n → ⊥
+no-fault [] n h f = f
+no-fault (t ∷ ts) n h (inl f) = f .0 (h .0)
+no-fault (t ∷ ts) n h (inr f) = no-fault ts n (h .1) (f .1)

@@ -25,6 +25,10 @@ abbrev pub forC : Answer → ℕ
 forC (Accepted v) = v
 forC (Refused n o) = n * 2 ^ 32 + o
 
+-- the number r tells C an answer of which P holds
+unfoldable pub Tells : ℕ → (Answer → Type 0) → Type 0
+Tells r P = (a : Answer) × (r ≡ forC a) × P a
+
 -- value and offset are 32 bits each, as every `Answer` of the code has them
 pub record Fits (a : Answer) : Type 0 where
   pub small-value : value a < 2 ^ 32

@@ -2,7 +2,9 @@
 use Prim.Native.Nat.{ℕ, zero, suc, _+_, _*_, _/_, _%_, _^_}
 use Prim.Native.Char.{code}
 use Prim.Native.String.{String, [] as empty, _∷_ as _then_}
+use mathlib.Core.Bool.{Bool, true, false, _&&_}
 use mathlib.Core.List.{List, [], _∷_, _++_}
+use lib.Dec.{eqb}
 use lib.ListN.{length, take, drop}
 
 -- `to`, with the bytes from index `at` on replaced by `from`: what a lent slice holds once `from` has been written there
@@ -28,3 +30,10 @@ tabulate f (suc n) = tabulate f n ++ (f n ∷ [])
 unfoldable pub ascii : String → List ℕ
 ascii empty = []
 ascii (c then s) = code c ∷ ascii s
+
+-- two lists of bytes are the same
+unfoldable pub eqBytes : List ℕ → List ℕ → Bool
+eqBytes [] [] = true
+eqBytes [] (y ∷ b) = false
+eqBytes (x ∷ a) [] = false
+eqBytes (x ∷ a) (y ∷ b) = eqb x y && eqBytes a b

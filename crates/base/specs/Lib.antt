@@ -4,3 +4,4 @@ pub mod Answer
 pub mod Dhcid
 pub mod Bytes
 pub mod Ascii
+pub mod Order

@@ -2,6 +2,7 @@
 use mathlib.Core.Bool.{Bool, true, false}
 use mathlib.Core.Path.{_≡_}
 use mathlib.Core.List.{List, [], _∷_}
+use mathlib.Core.Option.{Option, none as nothing, some}
 
 -- each element of a list has the property P
 pub data Every {A : Type 0} (P : A → Type 0) : List A → Type 0 where
@@ -12,6 +13,11 @@ pub data Every {A : Type 0} (P : A → Type 0) : List A → Type 0 where
 pub data Pairwise {A B : Type 0} (R : A → B → Type 0) : List A → List B → Type 0 where
   none : Pairwise R [] []
   more : {a : A} {b : B} {l : List A} {m : List B} → R a b → Pairwise R l m → Pairwise R (a ∷ l) (b ∷ m)
+
+-- what there may be has the property P, if it is there
+abbrev pub IfSome : {A : Type 0} → (A → Type 0) → Option A → Type 0
+IfSome P nothing = Unit {0}
+IfSome P (some a) = P a
 
 -- an answer b, true or false, decides the statement P
 pub record Decides (b : Bool) (P : Type 0) : Type 0 where

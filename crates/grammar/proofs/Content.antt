@@ -4,11 +4,10 @@ use Prim.Native.Nat.{ℕ}
 use mathlib.Core.Bool.{Bool, false, cond}
 use mathlib.Core.List.{List, [], _∷_, map}
 use mathlib.Core.Option.{Option, none, some}
-use Rattle.base.specs.Bytes.{ascii}
+use Rattle.base.specs.Bytes.{ascii, eqBytes}
 use Rattle.base.specs.Refusal.{entryOwner, entryType, entryData}
 use Rattle.name.specs.Label.{lower}
 use Rattle.grammar.specs.Listing.{RecordType, mnemonic, ResourceRecord}
-use Rattle.grammar.proofs.Deciding.{eqBytes}
 use Rattle.grammar.proofs.OwnerReader.{ownerOf}
 use Rattle.grammar.proofs.AddressReader.{aOf, aaaaOf}
 use Rattle.grammar.proofs.DhcidReader.{dhcidOf}

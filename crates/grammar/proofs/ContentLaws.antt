@@ -5,14 +5,15 @@ use mathlib.Core.Path.{_≡_, refl, ap, subst, _∙_}
 use mathlib.Core.List.{List, [], _∷_, _++_, map}
 use mathlib.Core.Option.{Option, none, some, Option·none-ne-some, Option·some-injective}
 use native.Mathlib.Omega.{arith}
-use Rattle.base.specs.Bytes.{ascii}
+use Rattle.base.proofs.Tests.{eqBytes-true, eq-eqBytes}
+use Rattle.base.specs.Bytes.{ascii, eqBytes}
 use Rattle.base.specs.Logic.{Every}
 use Rattle.base.specs.Refusal.{entryOwner, entryType, entryData}
 use Rattle.base.proofs.Lists.{every-middle}
 use Rattle.name.specs.Label.{isUpper, lower}
 use Rattle.grammar.specs.Listing.{isWordByte, begins, outside, Words, RecordType, mnemonic, ResourceRecord, EitherCase, Owner, Between, Head, Rdata, RecordEntry}
 use Rattle.grammar.specs.Faults.{WordFault}
-use Rattle.grammar.proofs.Deciding.{Reads, not-found, eqBytes, eqBytes-true, eq-eqBytes}
+use Rattle.grammar.proofs.Deciding.{Reads, not-found}
 use Rattle.grammar.proofs.ScanLaws.{one-words}
 use Rattle.grammar.proofs.OwnerReader.{ownerOf, owner-reads}
 use Rattle.grammar.proofs.AddressReader.{a-reads, aaaa-reads}

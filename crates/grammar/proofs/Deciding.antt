@@ -1,11 +1,8 @@
 -- Functions that decide a relation: they find what is related, and nothing else; and the tests that they are made of. Assumes nothing.
-use Prim.Native.Nat.{ℕ}
-use mathlib.Core.Bool.{Bool, true, false, _&&_, false≢true}
-use mathlib.Core.Path.{_≡_, refl, sym, ap, ap₂, subst, _∙_}
+use mathlib.Core.Bool.{Bool, true, false, _&&_}
+use mathlib.Core.Path.{_≡_, refl, sym, ap, ap₂, _∙_}
 use mathlib.Core.Option.{Option, none, some, Option·none-ne-some}
 use mathlib.Core.List.{List, [], _∷_}
-use lib.Dec.{eqb}
-use borrow.Author.Tests.{eqb-true, eq-eqb}
 use Rattle.base.specs.Logic.{Every}
 use Rattle.base.proofs.Tests.{and-left, and-right}
 
@@ -62,28 +59,3 @@ module _ {A : Type 0} {P : A → Type 0} (p : A → Bool) where
   unfolding all
   every-all g [] Every.none = refl
   every-all g (a ∷ l) (Every.more h hs) = ap₂ _&&_ (g a h) (every-all g l hs)
-
--- ---- two lists of bytes are the same
-
-unfoldable pub eqBytes : List ℕ → List ℕ → Bool
-eqBytes [] [] = true
-eqBytes [] (y ∷ b) = false
-eqBytes (x ∷ a) [] = false
-eqBytes (x ∷ a) (y ∷ b) = eqb x y && eqBytes a b
-
--- true: the lists are equal
-pub eqBytes-true : (a b : List ℕ) → eqBytes a b ≡ true → a ≡ b
-unfolding eqBytes
-eqBytes-true [] [] e = refl
-eqBytes-true [] (y ∷ b) e = absurd (false≢true e)
-eqBytes-true (x ∷ a) [] e = absurd (false≢true e)
-eqBytes-true (x ∷ a) (y ∷ b) e = ap₂ _∷_ (eqb-true x y (and-left (eqb x y) (eqBytes a b) e)) (eqBytes-true a b (and-right (eqb x y) (eqBytes a b) e))
-
-eqBytes-refl : (a : List ℕ) → eqBytes a a ≡ true
-unfolding eqBytes
-eqBytes-refl [] = refl
-eqBytes-refl (x ∷ a) = ap₂ _&&_ (eq-eqb x x refl) (eqBytes-refl a)
-
--- the other way: the lists are equal, so the test passes
-pub eq-eqBytes : (a b : List ℕ) → a ≡ b → eqBytes a b ≡ true
-eq-eqBytes a b e = subst (λ (l : List ℕ). eqBytes a l ≡ true) e (eqBytes-refl a)

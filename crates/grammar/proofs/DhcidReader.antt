@@ -11,6 +11,8 @@ use native.Mathlib.Omega.{arith}
 use lib.Dec.{eqb, ltb}
 use lib.ListN.{length, take, length-append}
 use borrow.Author.Tests.{eqb-true, eq-eqb, lt-ltb, ltb-true}
+use Rattle.base.proofs.Tests.{eqBytes-true, eq-eqBytes}
+use Rattle.base.specs.Bytes.{eqBytes}
 use Rattle.base.specs.Dhcid.{wellFormed}
 use Rattle.base.specs.Logic.{Every, Pairwise}
 use Rattle.text.specs.Digits.{digitValue}
@@ -20,7 +22,7 @@ use Rattle.text.proofs.Base64Laws.{value-digit}
 use Rattle.text.proofs.HexLaws.{hex-byte, digits-pairs, same-pairs}
 use Rattle.text.proofs.DhcidWordLaws.{length-dhcid}
 use Rattle.text.proofs.Theorems.{forms-apart}
-use Rattle.grammar.proofs.Deciding.{Reads, provided, provided-by, provided-is, all, all-true, every-all, eqBytes, eqBytes-true, eq-eqBytes}
+use Rattle.grammar.proofs.Deciding.{Reads, provided, provided-by, provided-is, all, all-true, every-all}
 
 -- ---- what either form asks of the bytes
 

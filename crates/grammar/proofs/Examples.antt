@@ -2,7 +2,7 @@
 use mathlib.Core.Path.{_≡_, refl, subst}
 use mathlib.Core.Option.{bind, orElse}
 use mathlib.Core.List.{List, [], _∷_, map, head-eq-of-cons-eq, tail-eq-of-cons-eq}
-use Rattle.base.specs.Bytes.{ascii, bigEndian, inBytes}
+use Rattle.base.specs.Bytes.{ascii, bigEndian, inBytes, eqBytes}
 use Rattle.base.specs.Dhcid.{identifierType, digestType, wellFormed}
 use Rattle.base.specs.Logic.{Every}
 use Rattle.name.specs.Label.{isUpper, isLower, isDigit, isLabelByte, lower}
@@ -14,7 +14,7 @@ use Rattle.text.specs.DhcidReading.{value64}
 use Rattle.grammar.specs.Listing.{isVisible, kindOf, mnemonic}
 use Rattle.grammar.specs.Outcome.{Outcome, Answered}
 use Rattle.grammar.specs.Examples.{Row, of, anA, tank, client, clientDhcid, rows, Hold}
-use Rattle.grammar.proofs.Deciding.{provided, all, eqBytes}
+use Rattle.grammar.proofs.Deciding.{provided, all}
 use Rattle.grammar.proofs.Scan.{scan}
 use Rattle.grammar.proofs.OwnerReader.{ownerOf}
 use Rattle.grammar.proofs.AddressReader.{fieldsOf, numbersOf, aOf, aaaaOf}

@@ -1,5 +1,5 @@
 -- Parts of a message, and the loop that passes the options of a DHCPv6 level. Assumes nothing.
-use Prim.Native.Nat.{ℕ, zero, suc, _+_, _-_, _≤_, _<_}
+use Prim.Native.Nat.{ℕ, suc, _+_, _-_, _≤_, _<_}
 use mathlib.Core.Bool.{Bool, true, false, cond}
 use mathlib.Core.Path.{_≡_, refl, sym, ap, ap₂, _∙_}
 use mathlib.Core.List.{List, [], _∷_, _++_, append-assoc, append-nil}
@@ -9,7 +9,8 @@ use native.Mathlib.Omega.{arith}
 use lib.Dec.{eqb}
 use borrow.Author.Tests.{ne-eqb}
 use lib.ListN.{length, getD, take, drop, length-drop}
-use lib.Seq.{drop-cons, drop-drop, take-all, take-nil, length-take-le}
+use lib.Seq.{drop-cons, drop-drop, take-all, length-take-le}
+use Rattle.base.proofs.Lists.{drop-take}
 use Rattle.message.specs.Options.{Located, having}
 use Rattle.message.specs.Seen.{partOf, seenOf, met}
 use Rattle.message.specs.Reading6.{part, be16, optionAt, before, options6, nothingSeen, seenIn, levelSeen, levelMet}
@@ -20,12 +21,6 @@ use Rattle.message.proofs.SeenLaws.{met-next, having-append}
 use Rattle.message.proofs.OptionsLaws6.{option-test, options-end, options-short, options-past, options-more}
 
 -- ---- parts of a message
-
-drop-take : (n k : ℕ) (l : List ℕ) → drop n (take k l) ≡ take (k - n) (drop n l)
-drop-take zero k l = let same : k ≡ k - 0 = omega arith in ap (λ (j : ℕ). take j l) same
-drop-take (suc n) zero l = let none-left : 0 ≡ 0 - suc n = omega arith in ap (λ (j : ℕ). take j (drop (suc n) l)) none-left
-drop-take (suc n) (suc k) [] = sym (take-nil (suc k - suc n))
-drop-take (suc n) (suc k) (x ∷ l) = let less : k - n ≡ suc k - suc n = omega arith in drop-take n k l ∙ ap (λ (j : ℕ). take j (drop n l)) less
 
 module _ (m : List ℕ) (at end : ℕ) where
   pub length-part : end ≤ length m → length (part m at end) ≡ end - at

@@ -9,7 +9,7 @@ use lib.Dec.{leb, eqb}
 use lib.ListN.{length, getD, take, drop, length-append, length-drop}
 use lib.Seq.{take-at, drop-at, drop-drop}
 use borrow.Author.Tests.{leb-true, eqb-false}
-use Rattle.base.specs.Logic.{Every}
+use Rattle.base.specs.Logic.{Every, IfSome}
 use Rattle.base.proofs.Lists.{drop-head, drop-next, every-at}
 use Rattle.base.proofs.Tests.{and-left, and-right}
 use Rattle.message.specs.Options.{Field4, pad, option, bytes4, written4, Located, located4, having, isRepeated, firstOf, optionOf}
@@ -64,16 +64,12 @@ pub record Placed (m : List ℕ) (r : Request) : Type 0 where
   pub duid : r .«id_type» ≡ 2 → (3 ≤ length (identifierBytes m r)) × (length (identifierBytes m r) ≤ 130)
 
 -- what an option holds, if there is one
-abbrev Holds : {A : Type 0} → (A → Type 0) → Option A → Type 0
-Holds P none = Unit {0}
-Holds P (some a) = P a
-
 module _ (P : Located → Type 0) (code : ℕ) where
-  kept-first : (l : Located) (ls : List Located) (t : Bool) → P l → Holds P (firstOf (having code ls)) → Holds P (firstOf (cond t (l ∷ having code ls) (having code ls)))
+  kept-first : (l : Located) (ls : List Located) (t : Bool) → P l → IfSome P (firstOf (having code ls)) → IfSome P (firstOf (cond t (l ∷ having code ls) (having code ls)))
   kept-first l ls true p rest = p
   kept-first l ls false p rest = rest
 
-  option-holds : (ls : List Located) → Every P ls → Holds P (optionOf code ls)
+  option-holds : (ls : List Located) → Every P ls → IfSome P (optionOf code ls)
   unfolding optionOf having
   option-holds [] Every.none = tt
   option-holds (l ∷ ls) (Every.more p ps) = kept-first l ls (eqb (l .code) code) p (option-holds ls ps)
@@ -87,7 +83,7 @@ module _ (m : List ℕ) where
     duid : i .type ≡ 2 → (3 ≤ i .head .len + i .rest .len) × (i .head .len + i .rest .len ≤ 130)
 
   by-address : 240 ≤ length m → hlen m ≤ 16 → (t : Bool) → eqb (hlen m) 0 ≡ t
-      → Holds IdPlaced (cond t none (some (record { type = 0; head = record { start = 1; len = 1 }; rest = record { start = 28; len = hlen m } })))
+      → IfSome IdPlaced (cond t none (some (record { type = 0; head = record { start = 1; len = 1 }; rest = record { start = 28; len = hlen m } })))
   by-address low most true e = tt
   by-address low most false e =
       let some-bytes = eqb-false (hlen m) 0 e in
@@ -95,13 +91,13 @@ module _ (m : List ℕ) where
 
   module _ (l : Located) (h : DataIn m l) where
     all-placed : (t : Bool) → leb 2 (length (l .bytes)) ≡ t
-        → Holds IdPlaced (cond t (some (record { type = 1; head = noPart; rest = record { start = l .start; len = length (l .bytes) } })) none)
+        → IfSome IdPlaced (cond t (some (record { type = 1; head = noPart; rest = record { start = l .start; len = length (l .bytes) } })) none)
     all-placed true e =
         let two = leb-true 2 (length (l .bytes)) e in
         record { head-inside = omega arith; rest-inside = h .fits; least = omega arith; most = λ b. omega (arith, h .short b); duid = λ z. absurd (omega arith) }
     all-placed false e = tt
 
-    duid-placed : (t : Bool) → hasDuid l ≡ t → Holds IdPlaced (cond t (some (record { type = 2; head = noPart; rest = record { start = l .start + 5; len = length (l .bytes) - 5 } }))
+    duid-placed : (t : Bool) → hasDuid l ≡ t → IfSome IdPlaced (cond t (some (record { type = 2; head = noPart; rest = record { start = l .start + 5; len = length (l .bytes) - 5 } }))
         (cond (leb 2 (length (l .bytes))) (some (record { type = 1; head = noPart; rest = record { start = l .start; len = length (l .bytes) } })) none))
     unfolding hasDuid
     duid-placed true e =
@@ -118,22 +114,22 @@ module _ (m : List ℕ) where
         }
     duid-placed false e = all-placed (leb 2 (length (l .bytes))) refl
 
-    wire-placed : (t : Bool) → hasWireName l ≡ t → Holds (Inside m) (cond t (some (record { start = l .start + 3; len = length (l .bytes) - 3 })) none)
+    wire-placed : (t : Bool) → hasWireName l ≡ t → IfSome (Inside m) (cond t (some (record { start = l .start + 3; len = length (l .bytes) - 3 })) none)
     unfolding hasWireName
     wire-placed true e =
         let three = leb-true 3 (length (l .bytes)) (and-left (leb 3 (length (l .bytes))) _ e) in
         omega (arith, h .fits)
     wire-placed false e = tt
 
-  identifier-placed : 240 ≤ length m → hlen m ≤ 16 → (o : Option Located) → Holds (DataIn m) o → Holds IdPlaced (identifier4 m o)
+  identifier-placed : 240 ≤ length m → hlen m ≤ 16 → (o : Option Located) → IfSome (DataIn m) o → IfSome IdPlaced (identifier4 m o)
   identifier-placed low most none h = by-address low most (eqb (hlen m) 0) refl
   identifier-placed low most (some l) h = duid-placed l h (hasDuid l) refl
 
-  name-placed : (o : Option Located) → Holds (DataIn m) o → Holds (Inside m) (name4 o)
+  name-placed : (o : Option Located) → IfSome (DataIn m) o → IfSome (Inside m) (name4 o)
   name-placed none h = tt
   name-placed (some l) h = wire-placed l h (hasWireName l) refl
 
-  name-inside : (o : Option Part) → Holds (Inside m) o → Inside m (namePart o)
+  name-inside : (o : Option Part) → IfSome (Inside m) o → Inside m (namePart o)
   name-inside none h = omega arith
   name-inside (some p) h = h
 
@@ -146,7 +142,7 @@ module _ (m : List ℕ) where
   Sound : Request → Type 0
   Sound r = r .refusal ≡ 0 → Placed m r
 
-  identified-sound : (i : Option Identifier) (n : Option Part) → Holds IdPlaced i → Holds (Inside m) n → Sound (identified i n)
+  identified-sound : (i : Option Identifier) (n : Option Part) → IfSome IdPlaced i → IfSome (Inside m) n → Sound (identified i n)
   unfolding Sound refusedWith accepted
   identified-sound none n h k e = absurd (omega arith)
   identified-sound (some i) n h k e =
