@@ -1,0 +1,195 @@
+-- What the writes of a slot leave, as the slots of entries, and what its fields say. Assumes nothing.
+use Prim.Native.Nat.{ℕ, _+_, _-_, _%_, _≤_}
+use mathlib.Core.Bool.{Bool, true, false, cond, true≢false, false≢true}
+use mathlib.Core.Path.{_≡_, refl, sym, ap, _∙_}
+use mathlib.Core.List.{List, [], _∷_, _++_, append-assoc}
+use mathlib.Core.Option.{Option, none, some}
+use native.Mathlib.Nat.{div-eq-of-lt}
+use native.Mathlib.Omega.{arith}
+use lib.Dec.{eqb}
+use lib.ListN.{length, take, drop, getD, set, replicate, length-replicate, replicate-append-replicate}
+use Rattle.base.specs.Bytes.{overlay, eqBytes}
+use Rattle.base.proofs.Bytes.{set-overlay}
+use Rattle.base.proofs.Tests.{by-ltb}
+use Rattle.name.specs.Name.{padded}
+use Rattle.slots.specs.Entry.{addressOf, addressSize, withAddress, withHolder}
+use Rattle.slots.specs.Form.{TableEntry, WellFormed, field, flag, flags, slotBytes, IsSlot}
+use Rattle.slots.specs.Promise.{isSet, raised, lowered, bitOf, offsetOf, fieldPut, fieldCleared, holding, isAddress}
+use Rattle.slots.specs.declared.Family.{Family}
+use Rattle.slots.specs.declared.Family.the-variants.{V4, V6}
+use Rattle.slots.specs.declared.Holding.the-variants.{ByHand, ByThis, ByAnother}
+use Rattle.slots.proofs.FlagLaws.{there, flag-a, flag-aaaa, flag-dhcid, flags-most}
+use Rattle.slots.proofs.LaidLaws.{Sizes, laid, regroup, overlay-at, length-laid, flags-of, a-of, aaaa-of, dhcid-of, write-flags, write-a, write-aaaa, write-dhcid, slot-sizes, length-padded}
+
+-- ---- flags
+
+-- a flag that is set can be taken away
+pub set-reaches : (bit v : ℕ) → isSet bit v ≡ true → bit ≤ v
+set-reaches bit v set = by-ltb v bit (λ less. absurd (false≢true (sym (ap (λ (q : ℕ). eqb (q % 2) 1) (div-eq-of-lt less)) ∙ set))) (λ h. h)
+
+-- the flags v are that of o and the rest
+module _ (bit rest v : ℕ) where
+  raised-is : (o : Option (List ℕ)) → isSet bit v ≡ there o → v ≡ flag bit o + rest → raised bit v ≡ bit + rest
+  raised-is none h e = ap (λ (t : Bool). cond t v (v + bit)) h ∙ omega arith
+  raised-is (some x) h e = ap (λ (t : Bool). cond t v (v + bit)) h ∙ e
+
+  lowered-is : (o : Option (List ℕ)) → isSet bit v ≡ there o → v ≡ flag bit o + rest → lowered bit v ≡ rest
+  lowered-is none h e = ap (λ (t : Bool). cond t (v - bit) v) h ∙ omega arith
+  lowered-is (some x) h e = ap (λ (t : Bool). cond t (v - bit) v) h ∙ omega arith
+
+pub bit-some : (f : Family) → 1 ≤ bitOf f
+bit-some V4 = omega arith
+bit-some V6 = omega arith
+
+pub bit-small : (f : Family) → bitOf f ≤ 2
+bit-small V4 = omega arith
+bit-small V6 = omega arith
+
+pub address-fits : (f : Family) → offsetOf f + addressSize f ≤ 277
+address-fits V4 = omega arith
+address-fits V6 = omega arith
+
+-- ---- a slot that is being written: it need not have a flag yet
+
+pub record SlotOf (e : TableEntry) (b : List ℕ) : Type 0 where
+  pub sizes : Sizes (padded (e .name)) (field 4 (e .a)) (field 16 (e .aaaa)) (field 35 (e .holder))
+  pub form : b ≡ slotBytes e
+
+pub slot-of : {e : TableEntry} {b : List ℕ} → WellFormed e → b ≡ slotBytes e → SlotOf e b
+slot-of {e} w form = record { sizes = slot-sizes e w; form = form }
+
+pub entry-of : (b : List ℕ) → IsSlot b → TableEntry
+unfolding IsSlot
+entry-of b (e, w, form) = e
+
+pub of-slot : (b : List ℕ) (h : IsSlot b) → SlotOf (entry-of b h) b
+unfolding IsSlot entry-of
+of-slot b (e, w, form) = slot-of w form
+
+module _ {e : TableEntry} {b : List ℕ} (s : SlotOf e b) where
+  pub long : length b ≡ 312
+  unfolding slotBytes
+  long = ap length (s .form) ∙ length-laid (length (e .name)) _ (flags e) _ _ _ (s .sizes)
+
+  flags-at : getD b 256 0 ≡ flags e
+  flags-at = ap (λ (t : List ℕ). getD t 256 0) (s .form) ∙ flags-of e (s .sizes)
+
+  pub small : getD b 256 0 ≤ 7
+  small = omega (arith, flags-at, flags-most e)
+
+  -- what its fields say
+  pub held-flag : isSet 4 (getD b 256 0) ≡ there (e .holder)
+  held-flag = ap (λ (v : ℕ). isSet 4 v) flags-at ∙ flag-dhcid e
+
+  pub holder-at : take 35 (drop 277 b) ≡ field 35 (e .holder)
+  holder-at = ap (λ (t : List ℕ). take 35 (drop 277 t)) (s .form) ∙ dhcid-of e (s .sizes)
+
+  pub address-flag : (f : Family) → isSet (bitOf f) (getD b 256 0) ≡ there (addressOf f e)
+  address-flag V4 = ap (λ (v : ℕ). isSet 1 v) flags-at ∙ flag-a e
+  address-flag V6 = ap (λ (v : ℕ). isSet 2 v) flags-at ∙ flag-aaaa e
+
+  pub address-at : (f : Family) → take (addressSize f) (drop (offsetOf f) b) ≡ field (addressSize f) (addressOf f e)
+  address-at V4 = ap (λ (t : List ℕ). take 4 (drop 257 t)) (s .form) ∙ a-of e (s .sizes)
+  address-at V6 = ap (λ (t : List ℕ). take 16 (drop 261 t)) (s .form) ∙ aaaa-of e (s .sizes)
+
+  -- other flags
+  flags-by : (g : ℕ → ℕ) (v : ℕ) → g (flags e) ≡ v
+      → set b 256 (g (getD b 256 0)) ≡ laid (length (e .name)) (padded (e .name)) v (field 4 (e .a)) (field 16 (e .aaaa)) (field 35 (e .holder))
+  unfolding slotBytes
+  flags-by g v is =
+      ap (λ (x : ℕ). set b 256 x) (ap g flags-at ∙ is) ∙ set-overlay b 256 v (omega (arith, long))
+      ∙ ap (λ (t : List ℕ). overlay t 256 (v ∷ [])) (s .form)
+      ∙ write-flags (length (e .name)) _ (flags e) _ _ _ (s .sizes) v
+
+  -- b′ has one field put, or cleared
+  pub address-put : (f : Family) (x : List ℕ) {b′ : List ℕ} → length x ≡ addressSize f → b′ ≡ fieldPut b (bitOf f) (offsetOf f) x → SlotOf (withAddress f (some x) e) b′
+  unfolding slotBytes flags fieldPut
+  address-put V4 x size is =
+      let v = flags (withAddress V4 (some x) e) in
+      let sum : raised 1 (flags e) ≡ v = raised-is 1 (flag 2 (e .aaaa) + flag 4 (e .holder)) (flags e) (e .a) (flag-a e) (omega arith) ∙ omega arith in
+      record {
+        sizes = record { name = s .sizes .name; a = size; aaaa = s .sizes .aaaa; dhcid = s .sizes .dhcid };
+        form = is ∙ ap (λ (t : List ℕ). overlay t 257 x) (flags-by (raised 1) v sum) ∙ write-a (length (e .name)) _ v _ _ _ (s .sizes) x size;
+      }
+  address-put V6 x size is =
+      let v = flags (withAddress V6 (some x) e) in
+      let sum : raised 2 (flags e) ≡ v = raised-is 2 (flag 1 (e .a) + flag 4 (e .holder)) (flags e) (e .aaaa) (flag-aaaa e) (omega arith) ∙ omega arith in
+      record {
+        sizes = record { name = s .sizes .name; a = s .sizes .a; aaaa = size; dhcid = s .sizes .dhcid };
+        form = is ∙ ap (λ (t : List ℕ). overlay t 261 x) (flags-by (raised 2) v sum) ∙ write-aaaa (length (e .name)) _ v _ _ _ (s .sizes) x size;
+      }
+
+  pub address-cleared : (f : Family) {b′ : List ℕ} → b′ ≡ fieldCleared b (bitOf f) (offsetOf f) (addressSize f) → SlotOf (withAddress f none e) b′
+  unfolding slotBytes flags fieldCleared
+  address-cleared V4 is =
+      let v = flags (withAddress V4 none e) in
+      let sum : lowered 1 (flags e) ≡ v = lowered-is 1 (flag 2 (e .aaaa) + flag 4 (e .holder)) (flags e) (e .a) (flag-a e) (omega arith) ∙ omega arith in
+      record {
+        sizes = record { name = s .sizes .name; a = refl; aaaa = s .sizes .aaaa; dhcid = s .sizes .dhcid };
+        form = is ∙ ap (λ (t : List ℕ). overlay t 257 (replicate 4 0)) (flags-by (lowered 1) v sum) ∙ write-a (length (e .name)) _ v _ _ _ (s .sizes) (replicate 4 0) refl;
+      }
+  address-cleared V6 is =
+      let v = flags (withAddress V6 none e) in
+      let sum : lowered 2 (flags e) ≡ v = lowered-is 2 (flag 1 (e .a) + flag 4 (e .holder)) (flags e) (e .aaaa) (flag-aaaa e) (omega arith) ∙ omega arith in
+      record {
+        sizes = record { name = s .sizes .name; a = s .sizes .a; aaaa = refl; dhcid = s .sizes .dhcid };
+        form = is ∙ ap (λ (t : List ℕ). overlay t 261 (replicate 16 0)) (flags-by (lowered 2) v sum) ∙ write-aaaa (length (e .name)) _ v _ _ _ (s .sizes) (replicate 16 0) refl;
+      }
+
+  pub holder-put : (d : List ℕ) {b′ : List ℕ} → length d ≡ 35 → b′ ≡ fieldPut b 4 277 d → SlotOf (withHolder d e) b′
+  unfolding slotBytes flags fieldPut
+  holder-put d size is =
+      let v = flags (withHolder d e) in
+      let sum : raised 4 (flags e) ≡ v = raised-is 4 (flag 1 (e .a) + flag 2 (e .aaaa)) (flags e) (e .holder) (flag-dhcid e) (omega arith) ∙ omega arith in
+      record {
+        sizes = record { name = s .sizes .name; a = s .sizes .a; aaaa = s .sizes .aaaa; dhcid = size };
+        form = is ∙ ap (λ (t : List ℕ). overlay t 277 d) (flags-by (raised 4) v sum) ∙ write-dhcid (length (e .name)) _ v _ _ _ (s .sizes) d size;
+      }
+
+-- ---- a name written over zeros
+
+-- a name and nothing under it
+abbrev pub bare : List ℕ → TableEntry
+bare n = record { name = n; a = none; aaaa = none; holder = none }
+
+abbrev zeros : ℕ → List ℕ
+zeros k = replicate k 0
+
+zeros-apart : (k : ℕ) → k ≤ 255 → zeros k ++ (zeros (255 - k) ++ zeros 56) ≡ zeros 311
+zeros-apart k short =
+    let sum : k + (255 - k + 56) ≡ 311 = omega arith in
+    ap (λ (t : List ℕ). zeros k ++ t) (replicate-append-replicate (255 - k) 56 0) ∙ replicate-append-replicate k (255 - k + 56) 0 ∙ ap zeros sum
+
+pub named : (b n : List ℕ) (l : ℕ) {b′ : List ℕ} → b ≡ zeros 312 → l ≡ length n → length n ≤ 255 → b′ ≡ overlay (set b 0 l) 1 n → SlotOf (bare n) b′
+unfolding slotBytes flags padded
+named b n l unused size short is =
+    let z = zeros (255 - length n) in
+    record {
+      sizes = record { name = length-padded n short; a = refl; aaaa = refl; dhcid = refl };
+      form =
+          is ∙ ap (λ (t : List ℕ). overlay (set t 0 l) 1 n) (unused ∙ ap (λ (t : List ℕ). 0 ∷ t) (sym (zeros-apart (length n) short)))
+          ∙ overlay-at (l ∷ []) (zeros (length n)) (z ++ zeros 56) 1 refl n (length-replicate {A = ℕ} (length n) 0)
+          ∙ sym (append-assoc (l ∷ n) z (zeros 56))
+          ∙ sym (regroup (l ∷ n ++ z) (0 ∷ zeros 4) (zeros 16) (zeros 35))
+          ∙ ap (λ (k : ℕ). laid k (n ++ z) 0 (zeros 4) (zeros 16) (zeros 35)) size;
+    }
+
+-- ---- answers by the flag and the field
+
+module _ (d : List ℕ) where
+  pub by-hand : (o : Option (List ℕ)) → there o ≡ false → ByHand ≡ holding eqBytes o d
+  by-hand none h = refl
+  by-hand (some k) h = absurd (true≢false h)
+
+  pub held-by : (o : Option (List ℕ)) (t : Bool) → there o ≡ true → eqBytes (field 35 o) d ≡ t → cond t ByThis ByAnother ≡ holding eqBytes o d
+  held-by none t h same = absurd (false≢true h)
+  held-by (some k) t h same = ap (λ (u : Bool). cond u ByThis ByAnother) (sym same)
+
+module _ (x : List ℕ) where
+  pub has-none : (o : Option (List ℕ)) → there o ≡ false → false ≡ isAddress o x
+  has-none none h = refl
+  has-none (some y) h = absurd (true≢false h)
+
+  pub has-some : (size : ℕ) (o : Option (List ℕ)) → there o ≡ true → eqBytes (field size o) x ≡ isAddress o x
+  has-some size none h = absurd (false≢true h)
+  has-some size (some y) h = refl

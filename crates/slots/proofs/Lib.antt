@@ -1,0 +1,9 @@
+pub mod LaidLaws
+pub mod FlagLaws
+pub mod TableLaws
+pub mod NameLaws
+pub mod SlotLaws
+pub mod SplitLaws
+pub mod OneLaws
+pub mod Theorems
+pub mod EffectLaws

@@ -1,0 +1,54 @@
+-- Bytes determine the entry of a slot, and the entries of a table. Assumes nothing.
+use Prim.Native.Nat.{ℕ, zero, suc, _≤_}
+use mathlib.Core.Bool.{true≢false}
+use mathlib.Core.Path.{_≡_, refl, sym, ap, ap₂, subst, _∙_}
+use mathlib.Core.List.{List, [], _∷_}
+use mathlib.Core.Option.{Option, none, some}
+use native.Mathlib.Nat.{suc-ne-zero}
+use native.Mathlib.Omega.{arith}
+use lib.ListN.{length, take, drop, getD, drop-of-length-le}
+use Rattle.slots.specs.Form.{TableEntry, field, flags, slotBytes, WellFormed, IsTable}
+use Rattle.slots.specs.Promise.{isSet}
+use Rattle.slots.proofs.FlagLaws.{there, flag-a, flag-aaaa, flag-dhcid}
+use Rattle.slots.proofs.LaidLaws.{slot-sizes, slot-length, slot-name, flags-of, a-of, aaaa-of, dhcid-of}
+use Rattle.slots.proofs.TableLaws.{unused-from, used-from}
+
+-- ---- one slot
+
+same-field : (size : ℕ) (o q : Option (List ℕ)) → there o ≡ there q → field size o ≡ field size q → o ≡ q
+same-field size none none t e = refl
+same-field size none (some y) t e = absurd (true≢false (sym t))
+same-field size (some x) none t e = absurd (true≢false t)
+same-field size (some x) (some y) t e = ap some e
+
+pub one-slot : (e f : TableEntry) → WellFormed e → WellFormed f → slotBytes e ≡ slotBytes f → e ≡ f
+one-slot e f w v s =
+    let size : length (e .name) ≡ length (f .name) = sym (slot-length e w) ∙ ap (λ (b : List ℕ). getD b 0 0) s ∙ slot-length f v in
+    let name : e .name ≡ f .name = sym (slot-name e w) ∙ ap₂ (λ (n : ℕ) (b : List ℕ). take n (drop 1 b)) size s ∙ slot-name f v in
+    let set : flags e ≡ flags f = sym (flags-of e (slot-sizes e w)) ∙ ap (λ (b : List ℕ). getD b 256 0) s ∙ flags-of f (slot-sizes f v) in
+    let a = same-field 4 (e .a) (f .a) (sym (flag-a e) ∙ ap (isSet 1) set ∙ flag-a f) (sym (a-of e (slot-sizes e w)) ∙ ap (λ (b : List ℕ). take 4 (drop 257 b)) s ∙ a-of f (slot-sizes f v)) in
+    let aaaa = same-field 16 (e .aaaa) (f .aaaa) (sym (flag-aaaa e) ∙ ap (isSet 2) set ∙ flag-aaaa f) (sym (aaaa-of e (slot-sizes e w)) ∙ ap (λ (b : List ℕ). take 16 (drop 261 b)) s ∙ aaaa-of f (slot-sizes f v)) in
+    let holder = same-field 35 (e .holder) (f .holder) (sym (flag-dhcid e) ∙ ap (isSet 4) set ∙ flag-dhcid f) (sym (dhcid-of e (slot-sizes e w)) ∙ ap (λ (b : List ℕ). take 35 (drop 277 b)) s ∙ dhcid-of f (slot-sizes f v)) in
+    λ i. record { name = name i; a = a i; aaaa = aaaa i; holder = holder i }
+
+-- ---- the table
+
+no-entries : (t : List TableEntry) → length t ≤ 0 → t ≡ []
+no-entries t none-left = drop-of-length-le t {i = 0} none-left
+
+pub one-from : (k : ℕ) (t u : List TableEntry) (b : List ℕ) → IsTable k t b → IsTable k u b → t ≡ u
+one-from zero t u b h g = no-entries t (h .room) ∙ sym (no-entries u (g .room))
+one-from (suc k) t u b h g = go (getD b 0 0) refl (λ s r. one-from k s r (drop 312 b))
+  where
+    go : (v : ℕ) → getD b 0 0 ≡ v → ((s r : List TableEntry) → IsTable k s (drop 312 b) → IsTable k r (drop 312 b) → s ≡ r) → t ≡ u
+    go zero z below = unused-from (suc k) b z t h .0 ∙ sym (unused-from (suc k) b z u g .0)
+    go (suc v) z below =
+        let nz : getD b 0 0 ≡ 0 → ⊥ = λ y. suc-ne-zero v (sym z ∙ y) in
+        let x = used-from (suc k) b (omega arith) nz t h in
+        let y = used-from (suc k) b (omega arith) nz u g in
+        let left : x .left ≡ k = omega (arith, x .limit) in
+        let left′ : y .left ≡ k = omega (arith, y .limit) in
+        x .order
+        ∙ ap₂ _∷_ (one-slot (x .entry) (y .entry) (x .well-formed) (y .well-formed) (sym (x .slot) ∙ y .slot))
+        (below (x .later) (y .later) (subst (λ (n : ℕ). IsTable n (x .later) (drop 312 b)) left (x .rest)) (subst (λ (n : ℕ). IsTable n (y .later) (drop 312 b)) left′ (y .rest)))
+        ∙ sym (y .order)

@@ -1,0 +1,72 @@
+-- The bytes of the table of names, and which bytes are a table's. Document 01, "The table": up to so many names in order of arrival, each with at least one record; sound.
+-- The number of names is a parameter; the calls have 64. A slot has 312 bytes: the name's wire length (1), the name (255), flags (1), A (4), AAAA (16), DHCID (35);
+-- what is absent is zeros, and so is an unused slot. Used slots come first.
+use Prim.Native.Nat.{ℕ, _+_, _-_, _*_, _≤_}
+use mathlib.Core.Bool.{true}
+use mathlib.Core.Path.{_≡_}
+use mathlib.Core.List.{List, [], _∷_, _++_}
+use mathlib.Core.Option.{Option, none, some}
+use lib.ListN.{length, replicate}
+use Rattle.base.specs.Dhcid.{wellFormed}
+use Rattle.base.specs.Logic.{Every, IfSome}
+use Rattle.name.specs.Name.{Proper, canonical, padded}
+use Rattle.slots.specs.Entry.{Entry, names, Distinct}
+
+-- ---- one slot
+
+-- an entry of the table: its holder is a DHCID
+abbrev pub TableEntry : Type 0
+TableEntry = Entry (List ℕ)
+
+-- a field that may be absent, of so many bytes, and its flag
+abbrev pub field : ℕ → Option (List ℕ) → List ℕ
+field size none = replicate size 0
+field size (some x) = x
+
+abbrev pub flag : ℕ → Option (List ℕ) → ℕ
+flag bit none = 0
+flag bit (some x) = bit
+
+unfoldable pub flags : TableEntry → ℕ
+flags e = flag 1 (e .a) + flag 2 (e .aaaa) + flag 4 (e .holder)
+
+unfoldable pub slotBytes : TableEntry → List ℕ
+slotBytes e = length (e .name) ∷ padded (e .name) ++ flags e ∷ field 4 (e .a) ++ field 16 (e .aaaa) ++ field 35 (e .holder)
+
+abbrev pub slotSize : ℕ
+slotSize = 312
+
+-- an entry that a sound table can have: the name is proper and canonical, addresses have their sizes, the DHCID passes refusal 15's test, and one of the three is there
+pub record WellFormed (e : TableEntry) : Type 0 where
+  pub proper : Proper (e .name)
+  pub lower : canonical (e .name) ≡ e .name
+  pub a : IfSome (λ x. length x ≡ 4) (e .a)
+  pub aaaa : IfSome (λ x. length x ≡ 16) (e .aaaa)
+  pub dhcid : IfSome (λ x. wellFormed x ≡ true) (e .holder)
+  pub some : 1 ≤ flags e
+
+-- the bytes s are those of such an entry
+unfoldable pub IsSlot : List ℕ → Type 0
+IsSlot s = (e : TableEntry) × WellFormed e × (s ≡ slotBytes e)
+
+-- ---- the table
+
+unfoldable pub usedSlots : List TableEntry → List ℕ
+usedSlots [] = []
+usedSlots (e ∷ t) = slotBytes e ++ usedSlots t
+
+-- the bytes of a table that has room for so many names
+unfoldable pub tableBytes : ℕ → List TableEntry → List ℕ
+tableBytes limit t = usedSlots t ++ replicate (slotSize * (limit - length t)) 0
+
+-- the bytes b are those of the entries t: every slot is well formed, and the used ones come first
+pub record IsTable (limit : ℕ) (t : List TableEntry) (b : List ℕ) : Type 0 where
+  pub each : Every WellFormed t
+  pub room : length t ≤ limit
+  pub form : b ≡ tableBytes limit t
+
+-- document 01's sound: that, and no name stands twice
+pub record Sound (limit : ℕ) (b : List ℕ) : Type 0 where
+  pub table : List TableEntry
+  pub slots : IsTable limit table b
+  pub distinct : Distinct (names table)

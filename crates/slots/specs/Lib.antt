@@ -1,0 +1,5 @@
+pub mod Entry
+pub mod Form
+pub mod Effect
+pub mod Promise
+pub mod SlotTests

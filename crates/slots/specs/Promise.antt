@@ -1,0 +1,73 @@
+-- What the functions over a slot and over a table promise beyond the definitions of Form.antt and Effect.antt.
+use Prim.Native.Nat.{ℕ, _+_, _-_, _*_, _/_, _%_}
+use mathlib.Core.Bool.{Bool, false, cond}
+use mathlib.Core.Path.{_≡_}
+use mathlib.Core.List.{List, _++_}
+use mathlib.Core.Option.{Option, none, some}
+use lib.Dec.{eqb}
+use lib.ListN.{take, drop, getD, set, replicate}
+use Rattle.base.specs.Bytes.{overlay, eqBytes}
+use Rattle.slots.specs.Form.{TableEntry, WellFormed, slotSize, slotBytes, IsTable}
+use Rattle.slots.specs.declared.Family.{Family}
+use Rattle.slots.specs.declared.Family.the-variants.{V4, V6}
+use Rattle.slots.specs.declared.Holding.{Holding}
+use Rattle.slots.specs.declared.Holding.the-variants.{ByHand, ByThis, ByAnother}
+
+-- P holds of the entry whose slot is s
+abbrev pub OfSlot : List ℕ → (TableEntry → Type 0) → Type 0
+OfSlot s P = (e : TableEntry) → WellFormed e → s ≡ slotBytes e → P e
+
+-- the bytes b are a table's, but for names that stand twice
+abbrev pub Entries : ℕ → List ℕ → Type 0
+Entries limit b = (t : List TableEntry) × IsTable limit t b
+
+-- P holds of the entries whose table is b
+abbrev pub OfTable : ℕ → List ℕ → (List TableEntry → Type 0) → Type 0
+OfTable limit b P = (t : List TableEntry) → IsTable limit t b → P t
+
+-- the bytes that stand for the name in slot i, by the length that stands before them
+unfoldable pub nameAt : List ℕ → ℕ → List ℕ
+nameAt b i = take (getD b (slotSize * i) 0) (drop (slotSize * i + 1) b)
+
+-- the bytes with the slot at an offset taken out and an unused one at the end
+unfoldable pub closedUp : List ℕ → ℕ → List ℕ
+closedUp b at = take at b ++ drop (at + slotSize) b ++ replicate slotSize 0
+
+-- is the flag of that value, 1, 2 or 4, set?
+abbrev pub isSet : ℕ → ℕ → Bool
+isSet bit v = eqb (v / bit % 2) 1
+
+-- the flags with that one set
+abbrev pub raised : ℕ → ℕ → ℕ
+raised bit v = cond (isSet bit v) v (v + bit)
+
+-- and with that one not set
+abbrev pub lowered : ℕ → ℕ → ℕ
+lowered bit v = cond (isSet bit v) (v - bit) v
+
+-- the flag of a family's address, and where in a slot the address stands
+abbrev pub bitOf : Family → ℕ
+bitOf V4 = 1
+bitOf V6 = 2
+
+abbrev pub offsetOf : Family → ℕ
+offsetOf V4 = 257
+offsetOf V6 = 261
+
+-- the slot s with its flag set and the bytes x at index `at`
+unfoldable pub fieldPut : List ℕ → ℕ → ℕ → List ℕ → List ℕ
+fieldPut s bit at x = overlay (set s 256 (raised bit (getD s 256 0))) at x
+
+-- and with the flag not set and that many zeros there
+unfoldable pub fieldCleared : List ℕ → ℕ → ℕ → ℕ → List ℕ
+fieldCleared s bit at size = overlay (set s 256 (lowered bit (getD s 256 0))) at (replicate size 0)
+
+-- who holds a name, seen from the client h: nobody, so that it is kept by hand; that client; or another
+abbrev pub holding : {H : Type 0} → (H → H → Bool) → Option H → H → Holding
+holding same none h = ByHand
+holding same (some k) h = cond (same k h) ByThis ByAnother
+
+-- is the address x the one that there may be?
+abbrev pub isAddress : Option (List ℕ) → List ℕ → Bool
+isAddress none x = false
+isAddress (some y) x = eqBytes y x
