@@ -1,0 +1,11 @@
+pub mod FoundLaws
+pub mod ArgumentLaws
+pub mod PlaceLaws
+pub mod EntryLaws
+pub mod StepLaws
+pub mod OutcomeLaws
+pub mod CaseLaws
+pub mod OthersLaws
+pub mod SoundLaws
+pub mod DemandLaws
+pub mod Theorems

@@ -1,0 +1,140 @@
+-- From the place of a name and what is left there to the outcome of a step. Assumes nothing.
+use Prim.Native.Nat.{ℕ, _+_, _-_, _*_, _≤_, _<_}
+use mathlib.Core.Bool.{Bool, true, false, cond, true≢false}
+use mathlib.Core.Path.{_≡_, refl, sym, ap, ap₂, subst, _∙_}
+use mathlib.Core.List.{List, [], _∷_, _++_, append-assoc}
+use mathlib.Core.Option.{Option, none, some}
+use native.Mathlib.Omega.{arith}
+use lib.Dec.{ltb, eqb}
+use lib.ListN.{length, take, drop, replicate, length-append}
+use lib.Seq.{drop-drop}
+use borrow.Author.Tests.{ltb-true, ltb-false}
+use Rattle.base.specs.Bytes.{eqBytes}
+use Rattle.base.specs.declared.Answer.{Answer}
+use Rattle.base.specs.declared.Answer.the-variants.{Accepted, Refused}
+use Rattle.slots.specs.Effect.{entered, refreshed, takenOver, deleted}
+use Rattle.slots.specs.Entry.{position, addressOf}
+use Rattle.slots.specs.Form.{TableEntry, slotBytes, WellFormed, tableBytes, IsTable}
+use Rattle.slots.specs.Promise.{closedUp, holding, isAddress}
+use Rattle.slots.specs.declared.Family.{Family}
+use Rattle.slots.specs.declared.Holding.{Holding}
+use Rattle.slots.specs.declared.Holding.the-variants.{ByHand, ByThis, ByAnother}
+use Rattle.slots.proofs.TableLaws.{length-table}
+use Rattle.slots.proofs.SplitLaws.{entry-well-formed, entry-within, slot-there, replaced, taken-out, unused-there, appended}
+use Rattle.table.specs.Steps.{Outcome, find, changed, without, addedTo, adding, add, removedFrom, removing, remove, clearedFrom, clear}
+use Rattle.table.specs.Promise.{placedBy, placeOf, AtEntry, slotAt, inSlot, LeavesEntry, LeavesSlot, addedAt, removedAt, Results}
+use Rattle.table.specs.declared.place.Place.{Place}
+use Rattle.table.specs.declared.place.Place.the-variants.{Held, Free, Full}
+use Rattle.table.proofs.FoundLaws.{Standing, standing}
+
+-- ---- a slot that was lent
+
+pub slot-size : (at : ℕ) → at + 312 - at ≡ 312
+slot-size at = omega arith
+
+-- the table once the part has come back
+pub put-in : (b : List ℕ) (at : ℕ) (s : List ℕ) → take at b ++ (s ++ drop (at + 312 - at) (drop at b)) ≡ inSlot b at s
+unfolding inSlot
+put-in b at s =
+    ap (λ (k : ℕ). take at b ++ (s ++ drop k (drop at b))) (slot-size at) ∙ ap (λ (r : List ℕ). take at b ++ (s ++ r)) (drop-drop 312 at b)
+    ∙ sym (append-assoc (take at b) s (drop (at + 312) b))
+
+pub leaves-slot : (b : List ℕ) (at : ℕ) (o : AtEntry) (r : Answer) (s left : List ℕ) → left ≡ take at b ++ (s ++ drop (at + 312 - at) (drop at b)) → LeavesEntry o r s → LeavesSlot b at o r left
+leaves-slot b at o r s left e l = record { answered = l .answered; table = e ∙ put-in b at s ∙ ap (inSlot b at) (l .slot) }
+
+-- ---- the place of a name
+
+module _ (k : ℕ) (n : List ℕ) (t : List TableEntry) (b : List ℕ) where
+  -- held at an offset: the entry there, and the table with another one there, or without it
+  pub record HeldAt (at : ℕ) : Type 0 where
+    pub before : List TableEntry
+    pub entry : TableEntry
+    pub after : List TableEntry
+    pub cut : t ≡ before ++ entry ∷ after
+    pub found : find n t ≡ some entry
+    pub change : (f : TableEntry → TableEntry) → changed n f t ≡ before ++ f entry ∷ after
+    pub gone : without n t ≡ before ++ after
+    pub well-formed : WellFormed entry
+    pub slot : slotAt b at ≡ slotBytes entry
+    pub fits : at + 312 ≤ length b
+    pub put : (f : TableEntry) → inSlot b at (slotBytes f) ≡ tableBytes k (before ++ f ∷ after)
+    pub out : closedUp b at ≡ tableBytes k (before ++ after)
+
+  -- free at an offset: an unused slot, and the table with an entry there
+  pub record FreeAt (at : ℕ) : Type 0 where
+    pub found : find n t ≡ none
+    pub room : length t < k
+    pub slot : slotAt b at ≡ replicate 312 0
+    pub fits : at + 312 ≤ length b
+    pub put : (f : TableEntry) → inSlot b at (slotBytes f) ≡ tableBytes k (t ++ f ∷ [])
+
+  pub record FullUp : Type 0 where
+    pub found : find n t ≡ none
+    pub full : k ≤ length t
+
+  placed : (o : Option TableEntry) → find n t ≡ o → placeOf k n t ≡ placedBy o k (position n t) (length t)
+  unfolding placeOf
+  placed o f = ap (λ (x : Option TableEntry). placedBy x k (position n t) (length t)) f
+
+  module _ (h : IsTable k t b) where
+    held-by : (at : ℕ) → Held at ≡ placeOf k n t → Standing n t → HeldAt at
+    unfolding inSlot
+    held-by at p (Standing.nowhere last f) = absurd (go (ltb (length t) k) (p ∙ placed none f))
+      where
+        go : (x : Bool) → Held at ≡ cond x (Free (312 * length t)) Full → ⊥
+        go true e = let z : _≡_ {A = ℕ} 0 1 = cc in omega arith
+        go false e = let z : _≡_ {A = ℕ} 0 1 = cc in omega arith
+    held-by at p (Standing.at q e r cut here f change gone) =
+        let table : IsTable k (q ++ e ∷ r) b = subst (λ (u : List TableEntry). IsTable k u b) cut h in
+        let offset : at ≡ 312 * position n t = let same : Held at ≡ Held (312 * position n t) = p ∙ placed (some e) f in cc in
+        let there : at ≡ 312 * length q = offset ∙ ap (λ (j : ℕ). 312 * j) here in
+        let within = entry-within k q e r b table in
+        record {
+          before = q;
+          entry = e;
+          after = r;
+          cut = cut;
+          found = f;
+          change = change;
+          gone = gone;
+          well-formed = entry-well-formed k q e r b table;
+          slot = ap (slotAt b) there ∙ slot-there k q e r b table;
+          fits = omega (arith, there, within, length-table k (q ++ e ∷ r) b table);
+          put = λ g. ap (λ (j : ℕ). take j b ++ slotBytes g ++ drop (j + 312) b) there ∙ replaced k q e r b table g;
+          out = ap (closedUp b) there ∙ taken-out k q e r b table;
+        }
+
+    pub held-at : (at : ℕ) → Held at ≡ placeOf k n t → HeldAt at
+    held-at at p = held-by at p (standing n t)
+
+    free-by : (at : ℕ) → Free at ≡ placeOf k n t → Standing n t → FreeAt at
+    unfolding inSlot
+    free-by at p (Standing.at q e r cut here f change gone) = absurd (let same : Free at ≡ Held (312 * position n t) = p ∙ placed (some e) f in let z : _≡_ {A = ℕ} 0 1 = cc in omega arith)
+    free-by at p (Standing.nowhere last f) = go (ltb (length t) k) refl (p ∙ placed none f)
+      where
+        go : (x : Bool) → ltb (length t) k ≡ x → Free at ≡ cond x (Free (312 * length t)) Full → FreeAt at
+        go true e same =
+            let there : at ≡ 312 * length t = cc in
+            let room = ltb-true (length t) k e in
+            record {
+              found = f;
+              room = room;
+              slot = ap (slotAt b) there ∙ unused-there k t b h room;
+              fits = omega (arith, there, room, length-table k t b h);
+              put = λ g. ap (λ (j : ℕ). take j b ++ slotBytes g ++ drop (j + 312) b) there ∙ appended k t b h room g;
+            }
+        go false e same = absurd (let z : _≡_ {A = ℕ} 0 1 = cc in omega arith)
+
+    pub free-at : (at : ℕ) → Free at ≡ placeOf k n t → FreeAt at
+    free-at at p = free-by at p (standing n t)
+
+    full-by : Full ≡ placeOf k n t → Standing n t → FullUp
+    full-by p (Standing.at q e r cut here f change gone) = absurd (let same : Full ≡ Held (312 * position n t) = p ∙ placed (some e) f in let z : _≡_ {A = ℕ} 0 1 = cc in omega arith)
+    full-by p (Standing.nowhere last f) = go (ltb (length t) k) refl (p ∙ placed none f)
+      where
+        go : (x : Bool) → ltb (length t) k ≡ x → Full ≡ cond x (Free (312 * length t)) Full → FullUp
+        go true e same = absurd (let z : _≡_ {A = ℕ} 0 1 = cc in omega arith)
+        go false e same = record { found = f; full = ltb-false (length t) k e }
+
+    pub full-up : Full ≡ placeOf k n t → FullUp
+    full-up p = full-by p (standing n t)

@@ -1,0 +1,195 @@
+-- The public theorems of `table`: what the promises of add, remove and clear say of the customer's second demand. Assumes nothing.
+use Prim.Native.Nat.{ℕ}
+use mathlib.Core.Path.{_≡_, refl, sym, ap, subst, _∙_}
+use mathlib.Core.Logic.{_↔_, inl, inr}
+use mathlib.Core.List.{List}
+use mathlib.Core.Option.{some}
+use Rattle.base.specs.Bytes.{eqBytes}
+use Rattle.base.specs.Order.{AllHold}
+use Rattle.base.specs.declared.Answer.{Answer}
+use Rattle.base.specs.declared.Answer.the-variants.{Accepted, Refused}
+use Rattle.name.specs.Name.{canonical}
+use Rattle.name.proofs.Theorems.{canonical-form}
+use Rattle.slots.specs.Entry.{familyOf, addressOf}
+use Rattle.slots.specs.Form.{TableEntry, tableBytes, Sound}
+use Rattle.slots.proofs.Theorems.{one-sound-table}
+use Rattle.table.specs.Steps.{find, add, remove, clear}
+use Rattle.table.specs.Calls.{KnownFamily, KnownPolicy, nameTests, argumentTests, Adds, Removes, Clears}
+use Rattle.table.specs.Demand2.{others, MayInstall, Installed, Deleted, Cleared}
+use Rattle.table.proofs.CaseLaws.{add-case, remove-case, clear-case}
+use Rattle.table.proofs.DemandLaws.{
+  one-call,
+  was-stepped,
+  left-sound,
+  add-leaves,
+  add-installs,
+  may-install,
+  remove-leaves,
+  remove-deletes,
+  clear-leaves,
+  clear-takes,
+  add-refused,
+  remove-refused,
+  clear-refused,
+  remove-accepted,
+  clear-accepted,
+}
+
+-- ---- add
+
+module _ (limit : ℕ) (b name dhcid : List ℕ) (family : ℕ) (address : List ℕ) (policy : ℕ) where
+  -- the arguments are sound: what is tested before the step holds
+  abbrev pub SoundAdd : Type 0
+  SoundAdd = AllHold (argumentTests limit (KnownFamily family × KnownPolicy policy) b name dhcid family address)
+
+  -- the promise determines the answer and what is left
+  pub one-add : (r q : Answer) (left also : List ℕ) → Adds limit b name dhcid family address policy r left → Adds limit b name dhcid family address policy q also → (r ≡ q) × (left ≡ also)
+  unfolding Adds
+  one-add r q left also h k = one-call limit (argumentTests limit (KnownFamily family × KnownPolicy policy) b name dhcid family address) b _ r q left also h k
+
+  module _ (r : Answer) (left : List ℕ) (h : Adds limit b name dhcid family address policy r left) where
+    -- a refused add changes nothing
+    pub refused-add : (n at : ℕ) → r ≡ Refused n at → left ≡ b
+    unfolding Adds
+    refused-add n at e = go h
+      where
+        go : Adds limit b name dhcid family address policy r left → left ≡ b
+        go (inl f) = f .unchanged
+        go (inr s) =
+            s .table
+            ∙ ap (tableBytes limit) (add-refused (s .sound .table) (canonical name) dhcid (familyOf family) address n at limit policy _ (add-case eqBytes (s .sound .table) (canonical name) dhcid (familyOf family) address limit policy) (sym (s .answer) ∙ e))
+            ∙ sym (s .sound .slots .form)
+
+    -- what it leaves is sound
+    pub sound-add : Sound limit b → Sound limit left
+    unfolding Adds
+    sound-add sound = go h
+      where
+        go : Adds limit b name dhcid family address policy r left → Sound limit left
+        go (inl f) = subst (Sound limit) (sym (f .unchanged)) sound
+        go (inr s) =
+            let c = canonical-form name (s .all-hold .1 .1 .0) in
+            left-sound limit left _
+            (add-leaves limit b (s .sound) (canonical name) dhcid (familyOf family) address policy (c .proper) (c .again) (s .all-hold .1 .1 .1 .0) (s .all-hold .1 .1 .1 .1 .0) .sound) (s .table)
+
+    module _ (args : SoundAdd) where
+      -- no other entry changes, and their order stays
+      pub others-add : (s : Sound limit b) (k : Sound limit left) → others (canonical name) (k .table) ≡ others (canonical name) (s .table)
+      unfolding Adds
+      others-add s k =
+          let c = canonical-form name (args .1 .1 .0) in
+          let w = was-stepped limit (argumentTests limit (KnownFamily family × KnownPolicy policy) b name dhcid family address) b _ r left h args (s .table) (s .slots) in
+          let l = add-leaves limit b s (canonical name) dhcid (familyOf family) address policy (c .proper) (c .again) (args .1 .1 .1 .0) (args .1 .1 .1 .1 .0) in
+          ap (others (canonical name)) (one-sound-table limit left k (left-sound limit left _ (l .sound) (w .1))) ∙ l .else-same
+
+      -- demand 2: the client is installed exactly if the name is unused and a place is free, or holds that client's DHCID, or is held by another DHCID while the policy is latest wins
+      pub installs : (s : Sound limit b) → Installed limit left (canonical name) dhcid (familyOf family) address r ↔ MayInstall limit (s .table) (canonical name) dhcid policy
+      unfolding Adds
+      installs s =
+          let c = canonical-form name (args .1 .1 .0) in
+          let w = was-stepped limit (argumentTests limit (KnownFamily family × KnownPolicy policy) b name dhcid family address) b _ r left h args (s .table) (s .slots) in
+          let l = add-leaves limit b s (canonical name) dhcid (familyOf family) address policy (c .proper) (c .again) (args .1 .1 .1 .0) (args .1 .1 .1 .1 .0) in
+          let case = add-case eqBytes (s .table) (canonical name) dhcid (familyOf family) address limit policy in (
+            λ i.
+                may-install limit b s (canonical name) dhcid (familyOf family) address policy (c .proper) (c .again) (args .1 .1 .1 .0) (args .1 .1 .1 .1 .0) _ case (args .0 .1) (i .value)
+                (sym (w .0) ∙ i .answer),
+            λ m.
+                let i = add-installs limit b s (canonical name) dhcid (familyOf family) address policy (c .proper) (c .again) (args .1 .1 .1 .0) (args .1 .1 .1 .1 .0) m in
+                record {
+                  sound = left-sound limit left _ (l .sound) (w .1);
+                  entry = i .entry;
+                  stands = i .stands;
+                  holder = i .holder;
+                  address = i .address;
+                  value = i .value;
+                  answer = w .0 ∙ i .answer;
+                  known = i .known;
+                },
+          )
+
+-- ---- remove
+
+module _ (limit : ℕ) (b name dhcid : List ℕ) (family : ℕ) (address : List ℕ) where
+  abbrev pub SoundRemove : Type 0
+  SoundRemove = AllHold (argumentTests limit (KnownFamily family) b name dhcid family address)
+
+  pub one-remove : (r q : Answer) (left also : List ℕ) → Removes limit b name dhcid family address r left → Removes limit b name dhcid family address q also → (r ≡ q) × (left ≡ also)
+  unfolding Removes
+  one-remove r q left also h k = one-call limit (argumentTests limit (KnownFamily family) b name dhcid family address) b _ r q left also h k
+
+  module _ (r : Answer) (left : List ℕ) (h : Removes limit b name dhcid family address r left) where
+    pub refused-remove : (n at : ℕ) → r ≡ Refused n at → left ≡ b
+    unfolding Removes
+    refused-remove n at e = go h
+      where
+        go : Removes limit b name dhcid family address r left → left ≡ b
+        go (inl f) = f .unchanged
+        go (inr s) =
+            s .table
+            ∙ ap (tableBytes limit) (remove-refused (s .sound .table) (canonical name) dhcid (familyOf family) address n at _ (remove-case eqBytes (s .sound .table) (canonical name) dhcid (familyOf family) address) (sym (s .answer) ∙ e))
+            ∙ sym (s .sound .slots .form)
+
+    pub sound-remove : Sound limit b → Sound limit left
+    unfolding Removes
+    sound-remove sound = go h
+      where
+        go : Removes limit b name dhcid family address r left → Sound limit left
+        go (inl f) = subst (Sound limit) (sym (f .unchanged)) sound
+        go (inr s) = left-sound limit left _ (remove-leaves limit b (s .sound) (canonical name) dhcid (familyOf family) address .sound) (s .table)
+
+    module _ (args : SoundRemove) (s : Sound limit b) where
+      -- demand 2: an accepted remove deletes that address of that client, and nothing else
+      pub removes-that : (v : ℕ) → r ≡ Accepted v → (k : Sound limit left) → (v ≡ 0) × Deleted (s .table) (k .table) (canonical name) dhcid (familyOf family) address
+      unfolding Removes
+      removes-that v e k =
+          let w = was-stepped limit (argumentTests limit (KnownFamily family) b name dhcid family address) b _ r left h args (s .table) (s .slots) in
+          let d = remove-deletes limit b s (canonical name) dhcid (familyOf family) address v (sym (w .0) ∙ e) in
+          let same = one-sound-table limit left (left-sound limit left _ (remove-leaves limit b s (canonical name) dhcid (familyOf family) address .sound) (w .1)) k in
+          (d .0, subst (λ (u : List TableEntry). Deleted (s .table) u (canonical name) dhcid (familyOf family) address) same (d .1))
+
+      -- and where that client holds the name with that address, it is accepted
+      pub removes-if : (c : TableEntry) → find (canonical name) (s .table) ≡ some c → c .holder ≡ some dhcid → addressOf (familyOf family) c ≡ some address → r ≡ Accepted 0
+      unfolding Removes
+      removes-if c stood holder at =
+          was-stepped limit (argumentTests limit (KnownFamily family) b name dhcid family address) b _ r left h args (s .table) (s .slots) .0
+          ∙ remove-accepted (s .table) (canonical name) dhcid (familyOf family) address c stood holder at _ (remove-case eqBytes (s .table) (canonical name) dhcid (familyOf family) address)
+
+-- ---- clear
+
+module _ (limit : ℕ) (b name : List ℕ) where
+  pub one-clear : (r q : Answer) (left also : List ℕ) → Clears limit b name r left → Clears limit b name q also → (r ≡ q) × (left ≡ also)
+  unfolding Clears
+  one-clear r q left also h k = one-call limit (nameTests limit b name) b _ r q left also h k
+
+  module _ (r : Answer) (left : List ℕ) (h : Clears limit b name r left) where
+    pub refused-clear : (n at : ℕ) → r ≡ Refused n at → left ≡ b
+    unfolding Clears
+    refused-clear n at e = go h
+      where
+        go : Clears limit b name r left → left ≡ b
+        go (inl f) = f .unchanged
+        go (inr s) = s .table ∙ ap (tableBytes limit) (clear-refused (s .sound .table) (canonical name) n at _ (clear-case (s .sound .table) (canonical name)) (sym (s .answer) ∙ e)) ∙ sym (s .sound .slots .form)
+
+    pub sound-clear : Sound limit b → Sound limit left
+    unfolding Clears
+    sound-clear sound = go h
+      where
+        go : Clears limit b name r left → Sound limit left
+        go (inl f) = subst (Sound limit) (sym (f .unchanged)) sound
+        go (inr s) = left-sound limit left _ (clear-leaves limit b (s .sound) (canonical name) .sound) (s .table)
+
+    module _ (args : AllHold (nameTests limit b name)) (s : Sound limit b) where
+      -- demand 2: an accepted clear takes the name, and nothing else
+      pub clears-that : (v : ℕ) → r ≡ Accepted v → (k : Sound limit left) → (v ≡ 0) × Cleared (s .table) (k .table) (canonical name)
+      unfolding Clears
+      clears-that v e k =
+          let w = was-stepped limit (nameTests limit b name) b _ r left h args (s .table) (s .slots) in
+          let d = clear-takes limit b s (canonical name) v (sym (w .0) ∙ e) in
+          let same = one-sound-table limit left (left-sound limit left _ (clear-leaves limit b s (canonical name) .sound) (w .1)) k in
+          (d .0, subst (λ (u : List TableEntry). Cleared (s .table) u (canonical name)) same (d .1))
+
+      -- and a name that stands is cleared
+      pub clears-if : (c : TableEntry) → find (canonical name) (s .table) ≡ some c → r ≡ Accepted 0
+      unfolding Clears
+      clears-if c stood =
+          was-stepped limit (nameTests limit b name) b _ r left h args (s .table) (s .slots) .0 ∙ clear-accepted (s .table) (canonical name) c stood _ (clear-case (s .table) (canonical name))

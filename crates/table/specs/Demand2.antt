@@ -1,0 +1,59 @@
+-- Demand 2 of the customer, of the three steps: what an add, a remove and a clear do and no more, said of the table's entries before and after the call. Which entries a table's bytes
+-- have is determined (slots, proofs/Theorems.antt).
+use Prim.Native.Nat.{ℕ, _≤_, _<_}
+use mathlib.Core.Bool.{cond}
+use mathlib.Core.Path.{_≡_}
+use mathlib.Core.List.{List, [], _∷_}
+use mathlib.Core.Option.{none, some}
+use lib.ListN.{length}
+use Rattle.base.specs.Bytes.{eqBytes}
+use Rattle.base.specs.declared.Answer.{Answer}
+use Rattle.base.specs.declared.Answer.the-variants.{Accepted}
+use Rattle.slots.specs.Effect.{deleted}
+use Rattle.slots.specs.Entry.{Entry, names, addressOf}
+use Rattle.slots.specs.Form.{TableEntry, Sound}
+use Rattle.slots.specs.declared.Family.{Family}
+use Rattle.table.specs.Steps.{find}
+
+-- every entry but that of the name n, whole and in order
+unfoldable pub others : {H : Type 0} → List ℕ → List (Entry H) → List (Entry H)
+others n [] = []
+others n (e ∷ t) = cond (eqBytes (e .name) n) (others n t) (e ∷ others n t)
+
+-- ---- "an add installs a client exactly if .."
+
+-- the name is unused and a place is free, or holds that client's DHCID, or is held by another DHCID while the policy is latest wins
+pub data MayInstall (limit : ℕ) (t : List TableEntry) (n d : List ℕ) (policy : ℕ) : Type 0 where
+  unused : find n t ≡ none → length t < limit → MayInstall limit t n d policy
+  same : (e : TableEntry) → find n t ≡ some e → e .holder ≡ some d → MayInstall limit t n d policy
+  latest : (e : TableEntry) (c : List ℕ) → find n t ≡ some e → e .holder ≡ some c → (c ≡ d → ⊥) → policy ≡ 1 → MayInstall limit t n d policy
+
+-- the client with the DHCID d is installed under the name n: the table is sound, the name's entry has that DHCID and that address, and the answer is 0, 1 or 2
+pub record Installed (limit : ℕ) (left n d : List ℕ) (f : Family) (x : List ℕ) (r : Answer) : Type 0 where
+  pub sound : Sound limit left
+  pub entry : TableEntry
+  pub stands : find n (sound .table) ≡ some entry
+  pub holder : entry .holder ≡ some d
+  pub address : addressOf f entry ≡ some x
+  pub value : ℕ
+  pub answer : r ≡ Accepted value
+  pub known : value ≤ 2
+
+-- ---- "a remove and a clear do what document 01 says and no more"
+
+-- from the entries t to the entries u that address was deleted, of that client, and nothing else
+pub record Deleted (t u : List TableEntry) (n d : List ℕ) (f : Family) (x : List ℕ) : Type 0 where
+  pub entry : TableEntry
+  pub stood : find n t ≡ some entry
+  pub holder : entry .holder ≡ some d
+  pub address : addressOf f entry ≡ some x
+  pub stands : find n u ≡ some (deleted f entry)
+  pub else-same : others n u ≡ others n t
+  pub order : names u ≡ names t
+
+-- the name was taken out, and nothing else
+pub record Cleared (t u : List TableEntry) (n : List ℕ) : Type 0 where
+  pub entry : TableEntry
+  pub stood : find n t ≡ some entry
+  pub gone : find n u ≡ none
+  pub else-same : others n u ≡ others n t

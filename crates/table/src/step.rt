@@ -1,0 +1,162 @@
+// The three steps on a sound table, with sound arguments.
+use crate::arguments::FIRST_WINS;
+use crate::arguments::refused;
+use crate::place::Place;
+use crate::place::place_of;
+use base::Answer;
+use base::refusal::ADDRESS_DIFFERS;
+use base::refusal::HELD_BY_ANOTHER;
+use base::refusal::KEPT_BY_HAND;
+use base::refusal::NAME_NOT_HELD;
+use base::refusal::TABLE_FULL;
+use slots::Family;
+use slots::Holding;
+use slots::slot;
+use slots::table::close_up;
+ghost use mathlib.Core.Bool.{true};
+ghost use mathlib.Core.Path.{_≡_};
+ghost use Prim.Native.Nat.{_+_, _≤_};
+ghost use lib.ListN.{length, replicate};
+ghost use Rattle.base.specs.Bytes.{eqBytes};
+ghost use Rattle.base.specs.Dhcid.{wellFormed};
+ghost use Rattle.name.specs.Name.{Proper, canonical};
+ghost use Rattle.slots.specs.Effect as effect;
+ghost use Rattle.slots.specs.Entry.{addressOf, addressSize};
+ghost use Rattle.slots.specs.Form.{IsSlot, slotBytes, Sound};
+ghost use Rattle.slots.specs.Promise.{OfSlot, OfTable, holding, isAddress};
+ghost use Rattle.table.specs.Promise as spec;
+ghost use Rattle.table.specs.Promise.{slotAt};
+ghost use Rattle.table.specs.Steps as step;
+
+// An add to a name that stands.
+fn add_held(slot: &mut [u8], dhcid: &[u8], family: Family, address: &[u8], policy: u32) -> Answer
+    requires { ⌜ (IsSlot (now slot)) × (length (now dhcid) ≡ 35) × (length (now address) ≡ addressSize family) ⌝ }
+    ensures { λ r. ⌜ OfSlot (now (slot .entry)) (λ e. spec.LeavesEntry (spec.addedAt (holding eqBytes (e .holder) (now (dhcid .entry))) policy e (effect.refreshed family (now (address .entry)) e) (effect.takenOver (now (dhcid .entry)) family (now (address .entry)) e)) r (now (slot .exit))) ⌝ }
+{
+    let holder = slot::holding(slot, dhcid);
+    match holder {
+        Holding::ByHand => refused(KEPT_BY_HAND),
+        Holding::ByThis => {
+            slot::refresh(slot, family, address);
+            Answer::Accepted(1)
+        }
+        Holding::ByAnother => {
+            if policy == FIRST_WINS {
+                return refused(HELD_BY_ANOTHER);
+            }
+            slot::take_over(slot, dhcid, family, address);
+            Answer::Accepted(2)
+        }
+    }
+}
+
+// A remove from a name that stands. The DHCID stays.
+fn remove_held(slot: &mut [u8], dhcid: &[u8], family: Family, address: &[u8]) -> Answer
+    requires { ⌜ IsSlot (now slot) ⌝ }
+    ensures { λ r. ⌜ OfSlot (now (slot .entry)) (λ e. spec.LeavesEntry (spec.removedAt (holding eqBytes (e .holder) (now (dhcid .entry))) (isAddress (addressOf family e) (now (address .entry))) e (effect.deleted family e)) r (now (slot .exit))) ⌝ }
+{
+    let holder = slot::holding(slot, dhcid);
+    match holder {
+        Holding::ByHand => refused(KEPT_BY_HAND),
+        Holding::ByThis => {
+            if !slot::has_address(slot, family, address) {
+                return refused(ADDRESS_DIFFERS);
+            }
+            slot::delete(slot, family);
+            Answer::Accepted(0)
+        }
+        Holding::ByAnother => refused(HELD_BY_ANOTHER),
+    }
+}
+
+// An add to the name whose slot is at `at`.
+fn add_at(
+    table: &mut [u8],
+    at: usize,
+    dhcid: &[u8],
+    family: Family,
+    address: &[u8],
+    policy: u32,
+) -> Answer
+    requires { ⌜ (at + 312 ≤ length (now table)) × (IsSlot (slotAt (now table) at)) × (length (now dhcid) ≡ 35) × (length (now address) ≡ addressSize family) ⌝ }
+    ensures { λ r. ⌜ OfSlot (slotAt (now (table .entry)) at) (λ e. spec.LeavesSlot (now (table .entry)) at (spec.addedAt (holding eqBytes (e .holder) (now (dhcid .entry))) policy e (effect.refreshed family (now (address .entry)) e) (effect.takenOver (now (dhcid .entry)) family (now (address .entry)) e)) r (now (table .exit))) ⌝ }
+{
+    let end = at + slot::SIZE;
+    add_held(&mut table[at..end], dhcid, family, address, policy)
+}
+
+// A new name in the unused slot at `at`.
+fn enter_at(table: &mut [u8], at: usize, name: &[u8], dhcid: &[u8], family: Family, address: &[u8])
+    requires { ⌜ (at + 312 ≤ length (now table)) × (slotAt (now table) at ≡ replicate 312 0) × (length (now name) ≤ 255) × (length (now dhcid) ≡ 35) × (length (now address) ≡ addressSize family) ⌝ }
+    ensures { λ _. ⌜ now (table .exit) ≡ spec.inSlot (now (table .entry)) at (slotBytes (effect.entered (canonical (now (name .entry))) (now (dhcid .entry)) family (now (address .entry)))) ⌝ }
+{
+    let end = at + slot::SIZE;
+    slot::enter(&mut table[at..end], name, dhcid, family, address);
+}
+
+// A remove from the name whose slot is at `at`.
+fn remove_at(table: &mut [u8], at: usize, dhcid: &[u8], family: Family, address: &[u8]) -> Answer
+    requires { ⌜ (at + 312 ≤ length (now table)) × (IsSlot (slotAt (now table) at)) ⌝ }
+    ensures { λ r. ⌜ OfSlot (slotAt (now (table .entry)) at) (λ e. spec.LeavesSlot (now (table .entry)) at (spec.removedAt (holding eqBytes (e .holder) (now (dhcid .entry))) (isAddress (addressOf family e) (now (address .entry))) e (effect.deleted family e)) r (now (table .exit))) ⌝ }
+{
+    let end = at + slot::SIZE;
+    remove_held(&mut table[at..end], dhcid, family, address)
+}
+
+// The step of an add: to a name that stands, or to a new one.
+pub(crate) fn add(
+    table: &mut [u8],
+    name: &[u8],
+    dhcid: &[u8],
+    family: Family,
+    address: &[u8],
+    policy: u32,
+) -> Answer
+    requires { ⌜ (Sound 64 (now table)) × (Proper (now name)) × (wellFormed (now dhcid) ≡ true) × (length (now address) ≡ addressSize family) ⌝ }
+    ensures { λ r. ⌜ OfTable 64 (now (table .entry)) (λ t. spec.Results 64 (step.add 64 eqBytes t (canonical (now (name .entry))) (now (dhcid .entry)) family (now (address .entry)) policy) r (now (table .exit))) ⌝ }
+{
+    let place = place_of(table, name);
+    match place {
+        Place::Held(at) => add_at(table, at, dhcid, family, address, policy),
+        Place::Free(at) => {
+            enter_at(table, at, name, dhcid, family, address);
+            Answer::Accepted(0)
+        }
+        Place::Full => refused(TABLE_FULL),
+    }
+}
+
+// The step of a remove.
+pub(crate) fn remove(
+    table: &mut [u8],
+    name: &[u8],
+    dhcid: &[u8],
+    family: Family,
+    address: &[u8],
+) -> Answer
+    requires { ⌜ Sound 64 (now table) ⌝ }
+    ensures { λ r. ⌜ OfTable 64 (now (table .entry)) (λ t. spec.Results 64 (step.remove eqBytes t (canonical (now (name .entry))) (now (dhcid .entry)) family (now (address .entry))) r (now (table .exit))) ⌝ }
+{
+    let place = place_of(table, name);
+    match place {
+        Place::Held(at) => remove_at(table, at, dhcid, family, address),
+        Place::Free(_) => refused(NAME_NOT_HELD),
+        Place::Full => refused(NAME_NOT_HELD),
+    }
+}
+
+// The step of a clear.
+pub(crate) fn clear(table: &mut [u8], name: &[u8]) -> Answer
+    requires { ⌜ Sound 64 (now table) ⌝ }
+    ensures { λ r. ⌜ OfTable 64 (now (table .entry)) (λ t. spec.Results 64 (step.clear t (canonical (now (name .entry)))) r (now (table .exit))) ⌝ }
+{
+    let place = place_of(table, name);
+    match place {
+        Place::Held(at) => {
+            close_up(table, at);
+            Answer::Accepted(0)
+        }
+        Place::Free(_) => refused(NAME_NOT_HELD),
+        Place::Full => refused(NAME_NOT_HELD),
+    }
+}
