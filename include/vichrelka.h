@@ -38,6 +38,11 @@ extern "C" {
 /* The most bytes that a listing may have. */
 #define VICHRELKA_LISTING_LIMIT 65536
 
+/* The names that a table has room for, the bytes of a name's slot, and the bytes of a table. */
+#define VICHRELKA_TABLE_NAMES 64
+#define VICHRELKA_SLOT_LEN 312
+#define VICHRELKA_TABLE_LEN (VICHRELKA_TABLE_NAMES * VICHRELKA_SLOT_LEN)
+
 /* The numbers of the refusals. A level of a DHCPv6 message is a relay's message, or the client's, which stands inside them all. An
    entry of a listing is a line, or several lines that parentheses hold together. */
 enum vichrelka_refused {
@@ -62,12 +67,16 @@ enum vichrelka_refused {
     VICHRELKA_REFUSED_NO_PROPER_NAME = 9,
     /* DHCPv6: a ninth relay stands around the client's message */
     VICHRELKA_REFUSED_TOO_MANY_RELAYS = 11,
-    /* the family is not 4 or 6, or the setting not 0 or 1 */
+    /* the family is not 4 or 6, or the setting or the policy not 0 or 1 */
     VICHRELKA_REFUSED_UNKNOWN_SETTING = 12,
     /* there is less room for the output than what is to be written */
     VICHRELKA_REFUSED_OUTPUT_SHORT = 13,
     /* identifier and name have more than 4,096 bytes together: the rules have this number, and no message leads to it */
     VICHRELKA_REFUSED_HASH_INPUT_LONG = 14,
+    /* a DHCID is not VICHRELKA_DHCID_LEN bytes, its identifier type is not 0, 1 or 2, or its digest type is not 1 */
+    VICHRELKA_REFUSED_NOT_A_DHCID = 15,
+    /* an address has not 4 bytes (family 4) or 16 (family 6) */
+    VICHRELKA_REFUSED_ADDRESS_LENGTH = 16,
     /* the listing has more than VICHRELKA_LISTING_LIMIT bytes */
     VICHRELKA_REFUSED_LISTING_LONG = 17,
     /* an entry has a byte other than tab, line end and 32 to 126 (in a comment too), a `(` inside parentheses, a `)` outside them,
@@ -79,7 +88,25 @@ enum vichrelka_refused {
     /* after the owner and at most one IN, an entry does not have A, AAAA or DHCID (in either case, IN too) */
     VICHRELKA_REFUSED_ENTRY_TYPE = 22,
     /* an entry's data are not those of its type, or words stand after them */
-    VICHRELKA_REFUSED_ENTRY_DATA = 24
+    VICHRELKA_REFUSED_ENTRY_DATA = 24,
+    /* the name is held by a client with another DHCID */
+    VICHRELKA_REFUSED_HELD_BY_ANOTHER = 30,
+    /* the name has no DHCID: it is kept by hand, and no client gets it */
+    VICHRELKA_REFUSED_KEPT_BY_HAND = 31,
+    /* the name is not in the table, and VICHRELKA_TABLE_NAMES others are */
+    VICHRELKA_REFUSED_TABLE_FULL = 32,
+    /* the name is not in the table */
+    VICHRELKA_REFUSED_NAME_NOT_HELD = 33,
+    /* the name has no address of that family, or another one */
+    VICHRELKA_REFUSED_ADDRESS_DIFFERS = 34,
+    /* the table is not VICHRELKA_TABLE_LEN bytes, or they are not those of a table: see below, "The table of names" */
+    VICHRELKA_REFUSED_TABLE_NOT_SOUND = 40
+};
+
+/* Who gets a name that another client holds. */
+enum vichrelka_policy {
+    VICHRELKA_FIRST_WINS = 0,
+    VICHRELKA_LATEST_WINS = 1
 };
 
 /* Where a chosen name stands: in the message, or in the site's name. */
@@ -182,6 +209,54 @@ uint64_t vichrelka_dhcid(uint32_t family, uint32_t setting,
  * Nothing is written, whatever the answer.
  */
 uint64_t vichrelka_listing_check(const uint8_t *text, size_t text_len);
+
+/*
+ * The table of names: up to VICHRELKA_TABLE_NAMES names in order of arrival, each with at most one A, one AAAA and one DHCID, and at least
+ * one of the three. It is VICHRELKA_TABLE_LEN bytes of yours; all zeros is the empty table, and they may be stored, copied and compared
+ * as they are. Every call tests that they are sound, and leaves them so:
+ *
+ *     a slot       the name's wire length (1 byte), the name (255), flags (1), A (4), AAAA (16), DHCID (35)
+ *     flags        1 A, 2 AAAA, 4 DHCID; at least one of them
+ *     the name     a proper one in wire form, in lower case; no name stands twice
+ *     the DHCID    VICHRELKA_DHCID_LEN bytes, identifier type 0, 1 or 2, digest type 1
+ *     zeros        whatever is not used: bytes behind the name, absent fields, slots behind the last name
+ *
+ * A name without a DHCID is kept by hand, and no client gets it. Names are given in wire form, in either case, and are stored in lower case.
+ *
+ * The calls below have place 0 in every refusal, and then have changed nothing. They write to the table alone.
+ */
+
+/*
+ * Give the name to the client with this DHCID, with this address of the family 4 (4 bytes) or 6 (16 bytes). Its value is
+ *
+ *     0   the name was not in the table: it now stands last, with this DHCID and this address
+ *     1   the client holds the name: its address of this family is now this one, that of the other family stays
+ *     2   another client held the name, and the policy is VICHRELKA_LATEST_WINS: DHCID and address of this family are now these, the
+ *         other family's is deleted; the name keeps its place in the order
+ *
+ * Refusals, in order: 12 (family, policy), 40, 9, 15, 16; then 31, 30 under VICHRELKA_FIRST_WINS, or 32.
+ */
+uint64_t vichrelka_table_add(uint8_t *table, size_t table_len,
+                             const uint8_t *name, size_t name_len,
+                             const uint8_t *dhcid, size_t dhcid_len, uint32_t family,
+                             const uint8_t *address, size_t address_len, uint32_t policy);
+
+/*
+ * Delete this address of the name, which the client with this DHCID holds. Its value is 0. The DHCID stays, and so does the name.
+ *
+ * Refusals, in order: 12 (family), 40, 9, 15, 16, 33, 31, 30, 34.
+ */
+uint64_t vichrelka_table_remove(uint8_t *table, size_t table_len,
+                                const uint8_t *name, size_t name_len,
+                                const uint8_t *dhcid, size_t dhcid_len, uint32_t family,
+                                const uint8_t *address, size_t address_len);
+
+/*
+ * Take the name out of the table, whoever holds it and however it is kept. Its value is 0. Later names move up by a slot.
+ *
+ * Refusals, in order: 40, 9, 33.
+ */
+uint64_t vichrelka_table_clear(uint8_t *table, size_t table_len, const uint8_t *name, size_t name_len);
 
 #ifdef __cplusplus
 }

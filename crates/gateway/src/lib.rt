@@ -1,11 +1,12 @@
 // The library's calls for C, one function each and thin: include/vichrelka.h says how C declares them, and what each answers. A slice is a pointer
 // and a length; what C owes for it is in docs/TRUST.md.
 ghost use mathlib.Core.Path.{_≡_};
-ghost use Rattle.base.specs.Answer.{forC};
+ghost use Rattle.base.specs.Answer.{forC, Tells};
 ghost use Rattle.grammar.proofs.Reader as reader;
 ghost use Rattle.listing.specs.Reading.{limit, counted};
 ghost use Rattle.dhcid.specs.Chosen.{placeAnswer};
 ghost use Rattle.dhcid.specs.Choosing.{choose, writingAnswer, writingOutput};
+ghost use Rattle.table.specs.Calls.{Adds, Removes, Clears};
 
 // uint64_t vichrelka_name(uint32_t family, uint32_t setting, const uint8_t *message, size_t message_len, const uint8_t *site, size_t site_len)
 #[no_mangle]
@@ -37,4 +38,43 @@ pub extern "C" fn vichrelka_listing_check(text: &[u8]) -> u64
     ensures { λ r. ⌜ r ≡ forC (counted (reader.check limit (now (text .entry)))) ⌝ }
 {
     listing::check(text).for_c()
+}
+
+// uint64_t vichrelka_table_add(uint8_t *table, size_t table_len, const uint8_t *name, size_t name_len, const uint8_t *dhcid, size_t dhcid_len,
+//                              uint32_t family, const uint8_t *address, size_t address_len, uint32_t policy)
+#[no_mangle]
+pub extern "C" fn vichrelka_table_add(
+    table: &mut [u8],
+    name: &[u8],
+    dhcid: &[u8],
+    family: u32,
+    address: &[u8],
+    policy: u32,
+) -> u64
+    ensures { λ r. ⌜ Tells r (λ a. Adds 64 (now (table .entry)) (now (name .entry)) (now (dhcid .entry)) family (now (address .entry)) policy a (now (table .exit))) ⌝ }
+{
+    table::add(table, name, dhcid, family, address, policy).for_c()
+}
+
+// uint64_t vichrelka_table_remove(uint8_t *table, size_t table_len, const uint8_t *name, size_t name_len, const uint8_t *dhcid, size_t dhcid_len,
+//                                 uint32_t family, const uint8_t *address, size_t address_len)
+#[no_mangle]
+pub extern "C" fn vichrelka_table_remove(
+    table: &mut [u8],
+    name: &[u8],
+    dhcid: &[u8],
+    family: u32,
+    address: &[u8],
+) -> u64
+    ensures { λ r. ⌜ Tells r (λ a. Removes 64 (now (table .entry)) (now (name .entry)) (now (dhcid .entry)) family (now (address .entry)) a (now (table .exit))) ⌝ }
+{
+    table::remove(table, name, dhcid, family, address).for_c()
+}
+
+// uint64_t vichrelka_table_clear(uint8_t *table, size_t table_len, const uint8_t *name, size_t name_len)
+#[no_mangle]
+pub extern "C" fn vichrelka_table_clear(table: &mut [u8], name: &[u8]) -> u64
+    ensures { λ r. ⌜ Tells r (λ a. Clears 64 (now (table .entry)) (now (name .entry)) a (now (table .exit))) ⌝ }
+{
+    table::clear(table, name).for_c()
 }
