@@ -45,6 +45,10 @@ static int wrong_numbers(void)
     wrong |= VICHRELKA_REFUSED_OPTIONS_MALFORMED != 4 || VICHRELKA_REFUSED_OPTION_REPEATED != 5 || VICHRELKA_REFUSED_OPTION_OVERLOAD != 6;
     wrong |= VICHRELKA_REFUSED_NOT_A_REQUEST != 7 || VICHRELKA_REFUSED_NO_IDENTIFIER != 8 || VICHRELKA_REFUSED_NO_PROPER_NAME != 9;
     wrong |= VICHRELKA_REFUSED_TOO_MANY_RELAYS != 11 || VICHRELKA_REFUSED_UNKNOWN_SETTING != 12 || VICHRELKA_REFUSED_OUTPUT_SHORT != 13;
+    wrong |= VICHRELKA_REFUSED_NOT_A_DHCID != 15 || VICHRELKA_REFUSED_ADDRESS_LENGTH != 16 || VICHRELKA_REFUSED_HELD_BY_ANOTHER != 30;
+    wrong |= VICHRELKA_REFUSED_KEPT_BY_HAND != 31 || VICHRELKA_REFUSED_TABLE_FULL != 32 || VICHRELKA_REFUSED_NAME_NOT_HELD != 33;
+    wrong |= VICHRELKA_REFUSED_ADDRESS_DIFFERS != 34 || VICHRELKA_REFUSED_TABLE_NOT_SOUND != 40 || VICHRELKA_TABLE_LEN != 19968;
+    wrong |= VICHRELKA_TABLE_NAMES != 64 || VICHRELKA_SLOT_LEN != 312 || VICHRELKA_FIRST_WINS != 0 || VICHRELKA_LATEST_WINS != 1;
     wrong |= VICHRELKA_REFUSED_HASH_INPUT_LONG != 14 || VICHRELKA_SOURCE_MESSAGE != 0 || VICHRELKA_SOURCE_SITE != 1;
 
     wrong |= vichrelka_name_source(chosen) != 1 || vichrelka_name_start(chosen) != 300 || vichrelka_name_len(chosen) != 18;
@@ -68,6 +72,28 @@ static int wrong_requests(void)
     return wrong;
 }
 
+static int wrong_tables(void)
+{
+    static uint8_t table[VICHRELKA_TABLE_LEN];
+    static const uint8_t name[] = {1, 'A', 0}, address[] = {192, 0, 2, 7};
+    static const uint8_t client[VICHRELKA_DHCID_LEN] = {0, 1, 1}, another[VICHRELKA_DHCID_LEN] = {0, 2, 1};
+    int wrong = 0;
+
+    wrong |= vichrelka_table_add(table, sizeof table, name, 3, client, sizeof client, 4, address, 4, VICHRELKA_FIRST_WINS) != 0;
+    wrong |= table[0] != 3 || table[2] != 'a' || table[256] != 5 || table[257] != 192 || table[278] != 1;
+    wrong |= vichrelka_table_add(table, sizeof table, name, 3, client, sizeof client, 4, address, 4, VICHRELKA_FIRST_WINS) != 1;
+    wrong |= vichrelka_refusal(vichrelka_table_add(table, sizeof table, name, 3, another, sizeof another, 4, address, 4, VICHRELKA_FIRST_WINS))
+             != VICHRELKA_REFUSED_HELD_BY_ANOTHER;
+    wrong |= vichrelka_table_add(table, sizeof table, name, 3, another, sizeof another, 4, address, 4, VICHRELKA_LATEST_WINS) != 2;
+    wrong |= vichrelka_table_remove(table, sizeof table, name, 3, another, sizeof another, 4, address, 4) != 0 || table[256] != 4;
+    wrong |= vichrelka_refusal(vichrelka_table_remove(table, sizeof table, name, 3, another, sizeof another, 4, address, 4))
+             != VICHRELKA_REFUSED_ADDRESS_DIFFERS;
+    wrong |= vichrelka_table_clear(table, sizeof table, name, 3) != 0 || table[0] != 0 || table[278] != 0;
+    wrong |= vichrelka_refusal(vichrelka_table_clear(table, sizeof table, name, 3)) != VICHRELKA_REFUSED_NAME_NOT_HELD;
+    wrong |= vichrelka_refusal(vichrelka_table_clear(NULL, 0, name, 3)) != VICHRELKA_REFUSED_TABLE_NOT_SOUND;
+    return wrong;
+}
+
 static int wrong_listings(void)
 {
     int wrong = 0;
@@ -81,5 +107,5 @@ static int wrong_listings(void)
 
 int main(void)
 {
-    return wrong_numbers() | wrong_requests() | wrong_listings();
+    return wrong_numbers() | wrong_requests() | wrong_listings() | wrong_tables();
 }

@@ -1,0 +1,10 @@
+/* Clear answers how many names are left. */
+#include "table.h"
+
+static uint64_t judged(struct step *s)
+{
+    uint64_t answer = ask(s);
+    return answer == 0 ? used(s->table) : answer;
+}
+
+PLANT_CLEAR(judged)

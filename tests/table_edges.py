@@ -1,0 +1,102 @@
+"""The hand-written steps of table_edges.txt, which says what they mean.
+
+    read_edges()   [Edge(call, zeros, answer, why), ...]
+"""
+
+import os
+import re
+from typing import Dict, List, NamedTuple, Tuple
+
+from message_edges import Bytes, read_bytes
+from table_model import A, AAAA, DHCID, SLOT, TABLE_LENGTH, Answer, Call
+
+PATH = os.path.join(os.path.dirname(os.path.abspath(__file__)), "table_edges.txt")
+WRITTEN_OUT = 200000  # a longer table has zeros behind it that are not
+
+
+class Edge(NamedTuple):
+    call: Call
+    zeros: Tuple[int, int, int, int]  # behind the table, the name, the DHCID and the address
+    answer: Answer
+    why: str
+
+
+# Tables
+
+TOKEN = re.compile(r"\s+|\{(?P<slot>[^}]*)\}|n(?P<first>\d+)\.\.n(?P<last>\d+)(?!\S)|@(?P<at>\d+)\.(?P<offset>\d+):(?P<bytes>\S+)"
+                   r"|length:(?P<length>\d+)$|-(?!\S)")
+RECORD = re.compile(r"\s(A|AAAA|DHCID)\s")
+FLAGS = {"A": A, "AAAA": AAAA, "DHCID": DHCID}
+NUMBERED = "'n%d.' A 0a0000%02x DHCID 000001 d1*32"
+
+
+def slot_bytes(form: str) -> bytes:
+    """A name, and records behind their types; nothing is an unused slot."""
+    name_form, *rest = RECORD.split(form)
+    name = read_bytes(name_form, {}).data
+    records = {FLAGS[kind]: read_bytes(data, {}).data for kind, data in zip(rest[::2], rest[1::2])}
+    return SLOT.pack(len(name), name, sum(records), *(records.get(flag, b"") for flag in FLAGS.values()))
+
+
+def read_table(form: str) -> Bytes:
+    slots, patches, length, at = b"", [], TABLE_LENGTH, 0
+    form = form.strip()
+    while at < len(form):
+        token = TOKEN.match(form, at)
+        if not token:
+            raise ValueError("no table: " + form[at:])
+        at = token.end()
+        if token["slot"] is not None:
+            slots += slot_bytes(token["slot"])
+        elif token["first"]:
+            slots += b"".join(slot_bytes(NUMBERED % (number, number)) for number in range(int(token["first"]), int(token["last"]) + 1))
+        elif token["bytes"]:
+            patches.append((SLOT.size * int(token["at"]) + int(token["offset"]), read_bytes(token["bytes"], {}).data))
+        elif token["length"]:
+            length = int(token["length"])
+    data = slots.ljust(TABLE_LENGTH, b"\0")
+    for first, patch in patches:
+        data = data[:first] + patch + data[first + len(patch):]
+    return Bytes(data.ljust(length, b"\0")[:length]) if length <= WRITTEN_OUT else Bytes(data, length - len(data))
+
+
+# Lines
+
+COLUMNS = {"add": 9, "remove": 8, "clear": 5}
+
+
+def answer_of(form: str) -> Answer:
+    said = re.fullmatch(r"refused (?P<refused>\d+)|(?P<value>[012]) (?P<table>.+)", form)
+    if not said:
+        raise ValueError("no answer: " + form)
+    return ("refused", int(said["refused"])) if said["refused"] else ("ok", int(said["value"]), read_table(said["table"]).data)
+
+
+def edge_of(line: str) -> Edge:
+    word, table_form, name_form, *rest, answer_form, why = (column.strip() for column in line.split("|"))
+    if COLUMNS.get(word) != 5 + len(rest) or not why:
+        raise ValueError("no step: " + line)
+    dhcid_form, family, address_form, policy = rest + ["-", "0", "-", "0"][len(rest):]
+    table = read_table(table_form)
+    name, dhcid, address = (read_bytes(form, {}) for form in (name_form, dhcid_form, address_form))
+    call = Call(word, table.data, name.data, dhcid.data, int(family), address.data, int(policy))
+    return Edge(call, (table.zeros, name.zeros, dhcid.zeros, address.zeros), answer_of(answer_form), why)
+
+
+def read_edges() -> List[Edge]:
+    words: Dict[str, str] = {}
+    edges: List[Edge] = []
+    with open(PATH, encoding="ascii") as file:
+        for number, line in enumerate(file, 1):
+            line = line.strip()
+            try:
+                if line and not line.startswith("#"):
+                    defined = re.match(r"\$(\w+) = ", line)
+                    whole = re.sub(r"\$(\w+)", lambda word: words[word[1]], line[defined.end() if defined else 0:])
+                    if defined:
+                        words[defined[1]] = whole
+                    else:
+                        edges.append(edge_of(whole))
+            except (KeyError, ValueError) as error:
+                raise SystemExit("%s:%d: %s" % (PATH, number, error)) from error
+    return edges
