@@ -1,0 +1,286 @@
+/* The nanoseconds of the calls on the table of names, beside the same calls in plain C, in one run: see bench/table.sh.
+ *
+ * A case is a list of calls that leaves its table as it was, so that it can be timed over and over; every answer is checked. */
+#include <stdio.h>
+#include <string.h>
+
+#include "measure.h"
+#include "table_plain.h"
+#include "vichrelka.h"
+
+/* how many calls a round has at least: on a table of one name, and on a full one, where each takes longer */
+enum { ROUNDS = 40, CALLS_ONE = 1024, CALLS_FULL = 32 };
+enum { NAMES = VICHRELKA_TABLE_NAMES, NAME_LIMIT = 255, LABEL_LIMIT = 63, ADDRESS_LIMIT = 16 };
+
+static const uint64_t HELD_BY_ANOTHER = (uint64_t)VICHRELKA_REFUSED_HELD_BY_ANOTHER << 32;
+
+/* a name and who holds it */
+struct entry {
+    size_t len, address_len;
+    uint32_t family;
+    uint8_t name[NAME_LIMIT], address[ADDRESS_LIMIT], dhcid[VICHRELKA_DHCID_LEN];
+};
+
+struct step {
+    enum { ADD, ADD_BY_ANOTHER, REMOVE, CLEAR } call;
+    const struct entry *entry;
+    uint64_t want;
+};
+
+/* `units` is how many times the list does what the case's line gives the time of */
+struct list {
+    const char *kind, *what;
+    int len, units;
+    struct step steps[2 * NAMES];
+};
+
+/* Names, in text, without the last dot */
+
+static void ordinary(char *text, int i)
+{
+    static const char *const THINGS[] = {"tank", "pump", "valve", "gauge", "weather-mast"};
+    static const char *const PLACES[] = {"bay", "hall", "greenhouse"};
+    sprintf(text, "%s-%d.%s-%d.example.com", THINGS[i % 5], i + 1, PLACES[i % 3], i % 12 + 1);
+}
+
+/* 255 bytes in wire form: labels of 63, 63, 63 and 61 characters, all from `first` on in the order of the alphabet */
+static void long_name(char *text, int first)
+{
+    for (int at = 0; at < NAME_LIMIT - 2; at++)
+        text[at] = at % (LABEL_LIMIT + 1) == LABEL_LIMIT ? '.' : (char)('a' + (first + at) % 26);
+    text[NAME_LIMIT - 2] = 0;
+}
+
+static void long_different(char *text, int i)
+{
+    long_name(text, i);
+    /* there are but 26 beginnings, so a number too, where a name would have it */
+    text[6] = (char)('0' + i / 8);
+    text[7] = (char)('0' + i % 8);
+}
+
+/* No more than 38 names can differ in one byte only, so there are two groups, which differ in the byte before it. */
+static void long_alike(char *text, int i)
+{
+    static const char IN_LABEL[] = "abcdefghijklmnopqrstuvwxyz0123456789-_";
+    int all = (int)sizeof IN_LABEL - 1;
+    long_name(text, 0);
+    text[NAME_LIMIT - 4] = IN_LABEL[i / all];
+    text[NAME_LIMIT - 3] = IN_LABEL[i % all];
+}
+
+static struct kind {
+    const char *what;
+    void (*write)(char *text, int i);
+    int count;
+    struct entry entries[NAMES];
+    uint8_t table[VICHRELKA_TABLE_LEN];
+    int cases;
+    struct list lists[5];
+} kinds[] = {
+    /* a clear empties it, and the add after it meets an empty table */
+    {.what = "one name", .write = ordinary, .count = 1},
+    {.what = "64 names, ordinary", .write = ordinary, .count = NAMES},
+    {.what = "64 names, 255 bytes", .write = long_different, .count = NAMES},
+    {.what = "64 names, 255 bytes, worst", .write = long_alike, .count = NAMES},
+};
+enum { KINDS = sizeof kinds / sizeof kinds[0] };
+
+/* Text to wire form */
+static size_t wire(const char *text, uint8_t *name)
+{
+    size_t len = 0;
+    while (*text) {
+        size_t label = strcspn(text, ".");
+        name[len++] = (uint8_t)label;
+        memcpy(name + len, text, label);
+        len += label;
+        text += label + (text[label] == '.');
+    }
+    name[len++] = 0;
+    return len;
+}
+
+static void make_entry(struct entry *e, void (*write)(char *, int), int i)
+{
+    char text[NAME_LIMIT];
+    write(text, i);
+    e->len = wire(text, e->name);
+    /* one address for each name: an add after a clear would not bring a second one back */
+    e->family = i % 2 ? 6 : 4;
+    e->address_len = i % 2 ? 16 : 4;
+    memcpy(e->address, i % 2 ? "\x20\x01\x0d\xb8\0\0\0\0\0\0\0\0\0\0\0" : "\xc0\0\2", e->address_len);
+    e->address[e->address_len - 1] = (uint8_t)(i + 1);
+    memcpy(e->dhcid, "\0\1\1", 3);
+    for (int k = 3; k < VICHRELKA_DHCID_LEN; k++)
+        e->dhcid[k] = (uint8_t)(i * 37 + k * 101 + 1);
+}
+
+/* Contestants */
+
+static const struct contestant {
+    const char *name;
+    uint64_t (*add)(uint8_t *, size_t, const uint8_t *, size_t, const uint8_t *, size_t, uint32_t, const uint8_t *, size_t, uint32_t);
+    uint64_t (*remove)(uint8_t *, size_t, const uint8_t *, size_t, const uint8_t *, size_t, uint32_t, const uint8_t *, size_t);
+    uint64_t (*clear)(uint8_t *, size_t, const uint8_t *, size_t);
+} contestants[] = {
+    {"vichrelka", vichrelka_table_add, vichrelka_table_remove, vichrelka_table_clear},
+    {"plain C", table_add_plain, table_remove_plain, table_clear_plain},
+};
+enum { VICHRELKA, PLAIN, CONTESTANTS };
+
+/* each has its own table */
+static uint8_t tables[CONTESTANTS][VICHRELKA_TABLE_LEN];
+
+/* Cases */
+
+static uint64_t call(const struct contestant *c, uint8_t *table, const struct step *s)
+{
+    static const uint8_t ANOTHER[VICHRELKA_DHCID_LEN] = {0, 2, 1};
+    const struct entry *e = s->entry;
+    switch (s->call) {
+    case REMOVE:
+        return c->remove(table, VICHRELKA_TABLE_LEN, e->name, e->len, e->dhcid, sizeof e->dhcid, e->family, e->address, e->address_len);
+    case CLEAR:
+        return c->clear(table, VICHRELKA_TABLE_LEN, e->name, e->len);
+    default:
+        return c->add(table, VICHRELKA_TABLE_LEN, e->name, e->len, s->call == ADD ? e->dhcid : ANOTHER, sizeof e->dhcid, e->family, e->address,
+                      e->address_len, VICHRELKA_FIRST_WINS);
+    }
+}
+
+static void append(struct list *l, int call, const struct entry *e, uint64_t want)
+{
+    l->steps[l->len].call = call;
+    l->steps[l->len].entry = e;
+    l->steps[l->len++].want = want;
+}
+
+static struct list *new_case(struct kind *k, const char *what, int units)
+{
+    struct list *l = &k->lists[k->cases++];
+    l->kind = k->what;
+    l->what = what;
+    l->units = units;
+    return l;
+}
+
+/* The call's name is the last one, which a search comes to last. */
+static void make_cases(struct kind *k)
+{
+    const struct entry *last = &k->entries[k->count - 1];
+    struct list *l = new_case(k, "add, same client", 1);
+    append(l, ADD, last, 1);
+
+    l = new_case(k, "add, refused (30)", 1);
+    append(l, ADD_BY_ANOTHER, last, HELD_BY_ANOTHER);
+
+    l = new_case(k, "remove and add, the pair", 1);
+    append(l, REMOVE, last, 0);
+    append(l, ADD, last, 1);
+
+    l = new_case(k, "clear and add, the pair", 1);
+    append(l, CLEAR, last, 0);
+    append(l, ADD, last, 0);
+
+    if (k->count == 1)
+        return;
+    /* Behind the last name nothing moves up. Here each name is the first in its turn, and after all of them the order is as before. */
+    l = new_case(k, "the same of the first name", k->count);
+    for (int i = 0; i < k->count; i++) {
+        append(l, CLEAR, &k->entries[i], 0);
+        append(l, ADD, &k->entries[i], 0);
+    }
+}
+
+/* Answers and tables */
+
+static void stop_at(const struct list *l, int i, const char *who, const char *what)
+{
+    char where[128];
+    snprintf(where, sizeof where, "%s, %s, call %d: %s", l->kind, l->what, i + 1, who);
+    stop(where, what);
+}
+
+/* Both contestants go through the list, and after each call have the answer that is due and the same table. */
+static void compare(const struct list *l)
+{
+    for (int i = 0; i < l->len; i++) {
+        for (int c = 0; c < CONTESTANTS; c++)
+            if (call(&contestants[c], tables[c], &l->steps[i]) != l->steps[i].want)
+                stop_at(l, i, contestants[c].name, "another answer than is due");
+        if (memcmp(tables[VICHRELKA], tables[PLAIN], VICHRELKA_TABLE_LEN) != 0)
+            stop_at(l, i, "the table", "vichrelka and plain C leave different bytes");
+    }
+}
+
+static void as_before(const struct kind *k, const struct list *l)
+{
+    for (int c = 0; c < CONTESTANTS; c++)
+        if (memcmp(tables[c], k->table, sizeof k->table) != 0)
+            stop_at(l, l->len - 1, contestants[c].name, "the table is not as before");
+}
+
+/* The table of a kind comes of adds, which are compared as well. */
+static void fill(struct kind *k)
+{
+    struct list l = {.kind = k->what, .what = "fill"};
+    for (int i = 0; i < k->count; i++) {
+        make_entry(&k->entries[i], k->write, i);
+        append(&l, ADD, &k->entries[i], 0);
+    }
+    memset(tables, 0, sizeof tables);
+    compare(&l);
+    memcpy(k->table, tables[PLAIN], sizeof k->table);
+}
+
+/* Time */
+
+/* what one pass is given */
+struct turn {
+    const struct list *list;
+    const struct contestant *contestant;
+    uint8_t *table;
+};
+
+static void pass(const void *given)
+{
+    const struct turn *t = given;
+    for (int i = 0; i < t->list->len; i++)
+        if (call(t->contestant, t->table, &t->list->steps[i]) != t->list->steps[i].want)
+            stop_at(t->list, i, t->contestant->name, "another answer than is due");
+}
+
+static void measure(const struct kind *k, const struct list *l)
+{
+    double best[CONTESTANTS] = {1e9, 1e9};
+    int calls = k->count == 1 ? CALLS_ONE : CALLS_FULL;
+    int passes = l->len < calls ? calls / l->len : 1;
+    for (int c = 0; c < CONTESTANTS; c++)
+        memcpy(tables[c], k->table, sizeof k->table);
+    /* in turns, so that what else the machine does meets both */
+    for (int round = 0; round < ROUNDS; round++) {
+        for (int c = 0; c < CONTESTANTS; c++)
+            time_passes(pass, &(struct turn){l, &contestants[c], tables[c]}, passes, &best[c]);
+        as_before(k, l);
+    }
+    printf("%-26s  %-26s %7.0f ns, plain C %6.0f ns, ratio %.2f\n", k->what, l->what, 1e9 * best[VICHRELKA] / l->units,
+           1e9 * best[PLAIN] / l->units, best[PLAIN] / best[VICHRELKA]);
+}
+
+int main(void)
+{
+    /* every case is compared before any is timed */
+    for (struct kind *k = kinds; k < kinds + KINDS; k++) {
+        fill(k);
+        make_cases(k);
+        for (int i = 0; i < k->cases; i++) {
+            compare(&k->lists[i]);
+            as_before(k, &k->lists[i]);
+        }
+    }
+    for (struct kind *k = kinds; k < kinds + KINDS; k++)
+        for (int i = 0; i < k->cases; i++)
+            measure(k, &k->lists[i]);
+    return 0;
+}

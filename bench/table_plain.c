@@ -1,0 +1,219 @@
+/* The table of names in ordinary C: the slots as a struct, the C library's memcmp, memcpy and memmove, each pair of names compared. */
+#include "table_plain.h"
+
+#include <stdbool.h>
+#include <string.h>
+
+#include "vichrelka.h"
+
+enum { NAME_LIMIT = 255, LABEL_LIMIT = 63 };
+enum { HAS_A = 1, HAS_AAAA = 2, HAS_DHCID = 4 };
+
+/* bytes alone, so it has no padding and may stand anywhere */
+struct slot {
+    uint8_t len, name[NAME_LIMIT], flags, a[4], aaaa[16], dhcid[VICHRELKA_DHCID_LEN];
+};
+_Static_assert(sizeof(struct slot) == VICHRELKA_SLOT_LEN, "a slot is as the header says");
+
+/* a name as it is stored, in lower case */
+struct name {
+    size_t len;
+    uint8_t bytes[NAME_LIMIT];
+};
+
+static const struct slot NOTHING;
+
+/* what may stand in a label, in lower case */
+static const bool IN_LABEL[256] = {['a' ... 'z'] = true, ['0' ... '9'] = true, ['-'] = true, ['_'] = true};
+
+static uint64_t refuse(uint64_t number) { return number << 32; }
+
+/* Soundness */
+
+/* for at most a slot's bytes */
+static bool zeros(const void *bytes, size_t len) { return memcmp(bytes, &NOTHING, len) == 0; }
+
+/* proper and in lower case */
+static bool proper(const uint8_t *name, size_t len)
+{
+    size_t at = 0;
+    while (at < len && name[at] != 0) {
+        size_t label = name[at];
+        if (label > LABEL_LIMIT || label >= len - at)
+            return false;
+        bool fits = true;
+        for (size_t i = 1; i <= label; i++)
+            fits &= IN_LABEL[name[at + i]];
+        if (!fits)
+            return false;
+        at += 1 + label;
+    }
+    return at > 0 && at + 1 == len;
+}
+
+static bool proper_dhcid(const uint8_t *dhcid) { return dhcid[0] == 0 && dhcid[1] <= 2 && dhcid[2] == 1; }
+
+static bool slot_sound(const struct slot *s)
+{
+    return proper(s->name, s->len) && zeros(s->name + s->len, NAME_LIMIT - s->len) && s->flags >= 1 && s->flags <= 7 &&
+           (s->flags & HAS_A || zeros(s->a, sizeof s->a)) && (s->flags & HAS_AAAA || zeros(s->aaaa, sizeof s->aaaa)) &&
+           (s->flags & HAS_DHCID ? proper_dhcid(s->dhcid) : zeros(s->dhcid, sizeof s->dhcid));
+}
+
+static bool holds(const struct slot *s, const uint8_t *name, size_t len) { return s->len == len && memcmp(s->name, name, len) == 0; }
+
+/* The number of names, or -1 for a table that is not sound */
+static int count_sound(const struct slot *slots, size_t table_len)
+{
+    int count = 0;
+    if (table_len != VICHRELKA_TABLE_LEN)
+        return -1;
+    for (; count < VICHRELKA_TABLE_NAMES && slots[count].len != 0; count++) {
+        if (!slot_sound(&slots[count]))
+            return -1;
+        for (int i = 0; i < count; i++)
+            if (holds(&slots[i], slots[count].name, slots[count].len))
+                return -1;
+    }
+    for (int i = count; i < VICHRELKA_TABLE_NAMES; i++)
+        if (!zeros(&slots[i], sizeof slots[i]))
+            return -1;
+    return count;
+}
+
+/* Arguments */
+
+static bool read_name(struct name *out, const uint8_t *name, size_t len)
+{
+    if (len > NAME_LIMIT)
+        return false;
+    /* a label's length is never a letter's code, so folding all bytes spoils none */
+    for (size_t i = 0; i < len; i++)
+        out->bytes[i] = name[i] >= 'A' && name[i] <= 'Z' ? name[i] + ('a' - 'A') : name[i];
+    out->len = len;
+    return proper(out->bytes, len);
+}
+
+static size_t address_room(uint32_t family) { return family == 4 ? 4 : 16; }
+static uint8_t address_flag(uint32_t family) { return family == 4 ? HAS_A : HAS_AAAA; }
+static uint8_t *address_of(struct slot *s, uint32_t family) { return family == 4 ? s->a : s->aaaa; }
+
+/* The refusal for the DHCID or the address, or 0 */
+static uint64_t client_fault(const uint8_t *dhcid, size_t dhcid_len, uint32_t family, size_t address_len)
+{
+    if (dhcid_len != VICHRELKA_DHCID_LEN || !proper_dhcid(dhcid))
+        return refuse(VICHRELKA_REFUSED_NOT_A_DHCID);
+    if (address_len != address_room(family))
+        return refuse(VICHRELKA_REFUSED_ADDRESS_LENGTH);
+    return 0;
+}
+
+/* The slot of the name, or null */
+static struct slot *find(struct slot *slots, int count, const struct name *name)
+{
+    for (int i = 0; i < count; i++)
+        if (holds(&slots[i], name->bytes, name->len))
+            return &slots[i];
+    return NULL;
+}
+
+/* Calls */
+
+static void set_address(struct slot *s, uint32_t family, const uint8_t *address)
+{
+    memcpy(address_of(s, family), address, address_room(family));
+    s->flags |= address_flag(family);
+}
+
+uint64_t table_add_plain(uint8_t *table, size_t table_len, const uint8_t *name, size_t name_len, const uint8_t *dhcid, size_t dhcid_len,
+                         uint32_t family, const uint8_t *address, size_t address_len, uint32_t policy)
+{
+    struct slot *slots = (struct slot *)table;
+    struct name key;
+    if ((family != 4 && family != 6) || policy > 1)
+        return refuse(VICHRELKA_REFUSED_UNKNOWN_SETTING);
+    int count = count_sound(slots, table_len);
+    if (count < 0)
+        return refuse(VICHRELKA_REFUSED_TABLE_NOT_SOUND);
+    if (!read_name(&key, name, name_len))
+        return refuse(VICHRELKA_REFUSED_NO_PROPER_NAME);
+    uint64_t fault = client_fault(dhcid, dhcid_len, family, address_len);
+    if (fault != 0)
+        return fault;
+
+    struct slot *s = find(slots, count, &key);
+    if (!s) {
+        if (count == VICHRELKA_TABLE_NAMES)
+            return refuse(VICHRELKA_REFUSED_TABLE_FULL);
+        s = &slots[count];
+        s->len = (uint8_t)key.len;
+        memcpy(s->name, key.bytes, key.len);
+        memcpy(s->dhcid, dhcid, sizeof s->dhcid);
+        s->flags = HAS_DHCID;
+        set_address(s, family, address);
+        return 0;
+    }
+    if (!(s->flags & HAS_DHCID))
+        return refuse(VICHRELKA_REFUSED_KEPT_BY_HAND);
+    if (memcmp(s->dhcid, dhcid, sizeof s->dhcid) == 0) {
+        set_address(s, family, address);
+        return 1;
+    }
+    if (policy == VICHRELKA_FIRST_WINS)
+        return refuse(VICHRELKA_REFUSED_HELD_BY_ANOTHER);
+    memset(s->a, 0, sizeof s->a);
+    memset(s->aaaa, 0, sizeof s->aaaa);
+    memcpy(s->dhcid, dhcid, sizeof s->dhcid);
+    s->flags = HAS_DHCID;
+    set_address(s, family, address);
+    return 2;
+}
+
+uint64_t table_remove_plain(uint8_t *table, size_t table_len, const uint8_t *name, size_t name_len, const uint8_t *dhcid, size_t dhcid_len,
+                            uint32_t family, const uint8_t *address, size_t address_len)
+{
+    struct slot *slots = (struct slot *)table;
+    struct name key;
+    if (family != 4 && family != 6)
+        return refuse(VICHRELKA_REFUSED_UNKNOWN_SETTING);
+    int count = count_sound(slots, table_len);
+    if (count < 0)
+        return refuse(VICHRELKA_REFUSED_TABLE_NOT_SOUND);
+    if (!read_name(&key, name, name_len))
+        return refuse(VICHRELKA_REFUSED_NO_PROPER_NAME);
+    uint64_t fault = client_fault(dhcid, dhcid_len, family, address_len);
+    if (fault != 0)
+        return fault;
+
+    struct slot *s = find(slots, count, &key);
+    if (!s)
+        return refuse(VICHRELKA_REFUSED_NAME_NOT_HELD);
+    if (!(s->flags & HAS_DHCID))
+        return refuse(VICHRELKA_REFUSED_KEPT_BY_HAND);
+    if (memcmp(s->dhcid, dhcid, sizeof s->dhcid) != 0)
+        return refuse(VICHRELKA_REFUSED_HELD_BY_ANOTHER);
+    if (!(s->flags & address_flag(family)) || memcmp(address_of(s, family), address, address_len) != 0)
+        return refuse(VICHRELKA_REFUSED_ADDRESS_DIFFERS);
+    memset(address_of(s, family), 0, address_len);
+    s->flags &= (uint8_t)~address_flag(family);
+    return 0;
+}
+
+uint64_t table_clear_plain(uint8_t *table, size_t table_len, const uint8_t *name, size_t name_len)
+{
+    struct slot *slots = (struct slot *)table;
+    struct name key;
+    int count = count_sound(slots, table_len);
+    if (count < 0)
+        return refuse(VICHRELKA_REFUSED_TABLE_NOT_SOUND);
+    if (!read_name(&key, name, name_len))
+        return refuse(VICHRELKA_REFUSED_NO_PROPER_NAME);
+
+    struct slot *s = find(slots, count, &key);
+    if (!s)
+        return refuse(VICHRELKA_REFUSED_NAME_NOT_HELD);
+    struct slot *last = &slots[count - 1];
+    memmove(s, s + 1, (size_t)(last - s) * sizeof *s);
+    memset(last, 0, sizeof *last);
+    return 0;
+}
