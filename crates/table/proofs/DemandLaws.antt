@@ -12,6 +12,7 @@ use Rattle.base.specs.Dhcid.{wellFormed}
 use Rattle.base.specs.Order.{Test, AllHold, FirstFault}
 use Rattle.base.specs.declared.Answer.{Answer}
 use Rattle.base.specs.declared.Answer.the-variants.{Accepted, Refused}
+use Rattle.base.proofs.Lists.{map-append}
 use Rattle.base.proofs.Tests.{eqBytes-true, eq-eqBytes}
 use Rattle.base.proofs.Theorems.{one-fault, no-fault}
 use Rattle.name.specs.Name.{Proper, canonical}
@@ -25,7 +26,7 @@ use Rattle.slots.specs.declared.Family.the-variants.{V4, V6}
 use Rattle.slots.proofs.Theorems.{one-table, one-sound-table}
 use Rattle.table.specs.Steps.{Outcome, find, changed, without, add, remove, clear}
 use Rattle.table.specs.Calls.{Faulty, Stepped, Called, KnownPolicy}
-use Rattle.table.specs.Demand2.{others, MayInstall, Installed, Deleted, Cleared}
+use Rattle.table.specs.Demand2.{others, Ordered, MayInstall, Installed, Deleted, Cleared}
 use Rattle.table.proofs.CaseLaws.{Adding, add-case, Removing, remove-case, Clearing, clear-case}
 use Rattle.table.proofs.OthersLaws.{others-changed, names-changed, find-changed, others-last, find-last, others-without, find-without}
 use Rattle.table.proofs.SoundLaws.{SoundEntries, entered-well-formed, taken-well-formed, refreshed-well-formed, deleted-well-formed, keeps-name, taken-keeps-name, sound-changed, sound-last, sound-without}
@@ -139,6 +140,19 @@ module _ (limit : ℕ) (b : List ℕ) (s : Sound limit b) (n : List ℕ) where
 
     pub add-leaves : Left limit n (s .table) (add limit eqBytes (s .table) n d f x policy)
     add-leaves = by-adding (add limit eqBytes (s .table) n d f x policy) (add-case eqBytes (s .table) n d f x limit policy)
+
+    -- every name keeps its place, and a new one stands last
+    by-order : (o : Outcome (List ℕ)) → Adding eqBytes (s .table) n d f x limit policy o → Ordered n (names (s .table)) (names (o .table))
+    by-order o (Adding.put-last found room e) =
+        inr (ap (λ (y : Outcome (List ℕ)). names (y .table)) e ∙ map-append (λ (c : TableEntry). c .name) (s .table) (entered n d f x ∷ []) ∙ ap (λ (m : List ℕ). names (s .table) ++ m ∷ []) (entered-name n d f x))
+    by-order o (Adding.full found room e) = inl (ap (λ (y : Outcome (List ℕ)). names (y .table)) e)
+    by-order o (Adding.by-hand c found holder e) = inl (ap (λ (y : Outcome (List ℕ)). names (y .table)) e)
+    by-order o (Adding.same-client c k found holder same e) = inl (ap (λ (y : Outcome (List ℕ)). names (y .table)) e ∙ names-changed n (refreshed f x) (keeps-name f (some x)) (s .table))
+    by-order o (Adding.first-wins c k found holder differs p e) = inl (ap (λ (y : Outcome (List ℕ)). names (y .table)) e)
+    by-order o (Adding.latest-wins c k found holder differs p e) = inl (ap (λ (y : Outcome (List ℕ)). names (y .table)) e ∙ names-changed n (takenOver d f x) (taken-keeps-name d f x) (s .table))
+
+    pub add-order : Ordered n (names (s .table)) (names (add limit eqBytes (s .table) n d f x policy .table))
+    add-order = by-order (add limit eqBytes (s .table) n d f x policy) (add-case eqBytes (s .table) n d f x limit policy)
 
     -- it installs the client exactly if it may
     pub record Stands (o : Outcome (List ℕ)) : Type 0 where

@@ -10,18 +10,19 @@ use Rattle.base.specs.declared.Answer.{Answer}
 use Rattle.base.specs.declared.Answer.the-variants.{Accepted, Refused}
 use Rattle.name.specs.Name.{canonical}
 use Rattle.name.proofs.Theorems.{canonical-form}
-use Rattle.slots.specs.Entry.{familyOf, addressOf}
+use Rattle.slots.specs.Entry.{familyOf, addressOf, names}
 use Rattle.slots.specs.Form.{TableEntry, tableBytes, Sound}
 use Rattle.slots.proofs.Theorems.{one-sound-table}
 use Rattle.table.specs.Steps.{find, add, remove, clear}
 use Rattle.table.specs.Calls.{KnownFamily, KnownPolicy, nameTests, argumentTests, Adds, Removes, Clears}
-use Rattle.table.specs.Demand2.{others, MayInstall, Installed, Deleted, Cleared}
+use Rattle.table.specs.Demand2.{others, Ordered, MayInstall, Installed, Deleted, Cleared}
 use Rattle.table.proofs.CaseLaws.{add-case, remove-case, clear-case}
 use Rattle.table.proofs.DemandLaws.{
   one-call,
   was-stepped,
   left-sound,
   add-leaves,
+  add-order,
   add-installs,
   may-install,
   remove-leaves,
@@ -81,6 +82,16 @@ module _ (limit : ℕ) (b name dhcid : List ℕ) (family : ℕ) (address : List 
           let w = was-stepped limit (argumentTests limit (KnownFamily family × KnownPolicy policy) b name dhcid family address) b _ r left h args (s .table) (s .slots) in
           let l = add-leaves limit b s (canonical name) dhcid (familyOf family) address policy (c .proper) (c .again) (args .1 .1 .1 .0) (args .1 .1 .1 .1 .0) in
           ap (others (canonical name)) (one-sound-table limit left k (left-sound limit left _ (l .sound) (w .1))) ∙ l .else-same
+
+      pub order-add : (s : Sound limit b) (k : Sound limit left) → Ordered (canonical name) (names (s .table)) (names (k .table))
+      unfolding Adds
+      order-add s k =
+          let c = canonical-form name (args .1 .1 .0) in
+          let w = was-stepped limit (argumentTests limit (KnownFamily family × KnownPolicy policy) b name dhcid family address) b _ r left h args (s .table) (s .slots) in
+          let l = add-leaves limit b s (canonical name) dhcid (familyOf family) address policy (c .proper) (c .again) (args .1 .1 .1 .0) (args .1 .1 .1 .1 .0) in
+          let same = one-sound-table limit left (left-sound limit left _ (l .sound) (w .1)) k in
+          subst (λ (u : List TableEntry). Ordered (canonical name) (names (s .table)) (names u)) same
+          (add-order limit b s (canonical name) dhcid (familyOf family) address policy (c .proper) (c .again) (args .1 .1 .1 .0) (args .1 .1 .1 .1 .0))
 
       -- demand 2: the client is installed exactly if the name is unused and a place is free, or holds that client's DHCID, or is held by another DHCID while the policy is latest wins
       pub installs : (s : Sound limit b) → Installed limit left (canonical name) dhcid (familyOf family) address r ↔ MayInstall limit (s .table) (canonical name) dhcid policy

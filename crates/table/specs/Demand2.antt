@@ -3,7 +3,8 @@
 use Prim.Native.Nat.{ℕ, _≤_, _<_}
 use mathlib.Core.Bool.{cond}
 use mathlib.Core.Path.{_≡_}
-use mathlib.Core.List.{List, [], _∷_}
+use mathlib.Core.Logic.{_⊎_}
+use mathlib.Core.List.{List, [], _∷_, _++_}
 use mathlib.Core.Option.{none, some}
 use lib.ListN.{length}
 use Rattle.base.specs.Bytes.{eqBytes}
@@ -19,6 +20,10 @@ use Rattle.table.specs.Steps.{find}
 unfoldable pub others : {H : Type 0} → List ℕ → List (Entry H) → List (Entry H)
 others n [] = []
 others n (e ∷ t) = cond (eqBytes (e .name) n) (others n t) (e ∷ others n t)
+
+-- the names of a table before and after an add of the name n: each keeps its place, and a new one stands last
+abbrev pub Ordered : List ℕ → List (List ℕ) → List (List ℕ) → Type 0
+Ordered n before after = (after ≡ before) ⊎ (after ≡ before ++ n ∷ [])
 
 -- ---- "an add installs a client exactly if .."
 
