@@ -1,14 +1,12 @@
 -- Where a name stands in a list of entries, and that none stands twice. Assumes nothing.
 use Prim.Native.Nat.{ℕ, suc, _+_, _-_, _≤_, _<_}
-use mathlib.Core.Bool.{Bool, true, false, cond}
+use mathlib.Core.Bool.{Bool, cond}
 use mathlib.Core.Path.{_≡_, refl, sym, ap, _∙_}
 use mathlib.Core.List.{List, [], _∷_, _++_}
 use native.Mathlib.Nat.{add-zero, zero-add}
-use native.Mathlib.Numerals.{add-one}
 use native.Mathlib.Omega.{arith}
 use lib.ListN.{length, take, drop, length-drop, take-append-drop}
 use lib.Seq.{length-take-le}
-use Rattle.base.specs.Bytes.{eqBytes}
 use Rattle.base.specs.Logic.{Every}
 use Rattle.base.proofs.Lists.{drop-next}
 use Rattle.base.proofs.Tests.{eq-eqBytes, ne-eqBytes}

@@ -1,9 +1,9 @@
 -- The bytes of a table cut at one slot: what stands there, and what the table is with another entry there, with one more, or with one less. Assumes nothing.
-use Prim.Native.Nat.{ℕ, suc, _+_, _-_, _*_, _≤_, _<_}
+use Prim.Native.Nat.{ℕ, suc, _+_, _-_, _*_, _<_}
 use mathlib.Core.Path.{_≡_, refl, sym, ap, ap₂, _∙_}
 use mathlib.Core.List.{List, [], _∷_, _++_, append-assoc, append-nil}
 use native.Mathlib.Omega.{arith}
-use lib.ListN.{length, take, drop, replicate, length-append, length-replicate, replicate-append-replicate}
+use lib.ListN.{length, take, drop, replicate, length-append, replicate-append-replicate}
 use lib.Seq.{take-at, drop-at, drop-drop}
 use Rattle.base.specs.Logic.{Every}
 use Rattle.base.proofs.Bytes.{take-replicate, drop-replicate}

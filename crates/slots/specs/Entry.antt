@@ -1,5 +1,5 @@
 -- The entries of the table of names. Document 01, "The table": a name, with at most one A, one AAAA and one DHCID.
-use Prim.Native.Nat.{ℕ, zero, suc}
+use Prim.Native.Nat.{ℕ, suc}
 use mathlib.Core.Bool.{cond}
 use mathlib.Core.Path.{_≡_}
 use mathlib.Core.List.{List, [], _∷_, map}

@@ -1,8 +1,8 @@
 -- Which fault of a call's arguments comes first, test by test. Assumes nothing.
 use Prim.Native.Nat.{ℕ}
 use mathlib.Core.Path.{_≡_, refl}
-use mathlib.Core.Logic.{_⊎_, inl, inr, ⊎-elim}
-use mathlib.Core.List.{List, [], _∷_, _++_}
+use mathlib.Core.Logic.{inl, inr}
+use mathlib.Core.List.{List, _∷_, _++_}
 use Rattle.base.specs.Order.{Test, AllHold, FirstFault}
 use Rattle.base.proofs.OrderLaws.{fault-before, fault-after, hold-both}
 use Rattle.base.specs.declared.Answer.{Answer}

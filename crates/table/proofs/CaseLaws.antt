@@ -12,7 +12,7 @@ use Rattle.slots.specs.Entry.{Entry, addressOf}
 use Rattle.slots.specs.Promise.{holding, isAddress}
 use Rattle.slots.specs.declared.Family.{Family}
 use Rattle.slots.specs.declared.Holding.the-variants.{ByThis, ByAnother}
-use Rattle.table.specs.Steps.{Outcome, find, changed, without, refusedWith, acceptedWith, adding, contested, addedTo, add, removing, removedFrom, remove, clearedFrom, clear}
+use Rattle.table.specs.Steps.{Outcome, find, changed, without, refusedWith, acceptedWith, adding, addedTo, add, removing, removedFrom, remove, clearedFrom, clear}
 
 module _ {H : Type 0} (same : H → H → Bool) (t : List (Entry H)) (n : List ℕ) (h : H) (f : Family) (x : List ℕ) where
   module _ (limit policy : ℕ) where

@@ -1,5 +1,5 @@
 -- Demand 2, from the calls' promises. Assumes nothing.
-use Prim.Native.Nat.{ℕ, _≤_, _<_}
+use Prim.Native.Nat.{ℕ, _≤_}
 use mathlib.Core.Bool.{true, false, true≢false, false≢true}
 use mathlib.Core.Path.{_≡_, refl, sym, ap, subst, _∙_}
 use mathlib.Core.Logic.{inl, inr, ⊎-elim}
@@ -9,14 +9,13 @@ use native.Mathlib.Omega.{arith}
 use lib.ListN.{length}
 use Rattle.base.specs.Bytes.{eqBytes}
 use Rattle.base.specs.Dhcid.{wellFormed}
-use Rattle.base.specs.Order.{Test, AllHold, FirstFault}
+use Rattle.base.specs.Order.{Test, AllHold}
 use Rattle.base.specs.declared.Answer.{Answer}
 use Rattle.base.specs.declared.Answer.the-variants.{Accepted, Refused}
 use Rattle.base.proofs.Lists.{map-append}
 use Rattle.base.proofs.Tests.{eqBytes-true, eq-eqBytes}
 use Rattle.base.proofs.Theorems.{one-fault, no-fault}
 use Rattle.name.specs.Name.{Proper, canonical}
-use Rattle.name.proofs.Theorems.{canonical-form}
 use Rattle.slots.specs.Effect.{entered, refreshed, takenOver, deleted}
 use Rattle.slots.specs.Entry.{names, addressOf, addressSize, other, withAddress, withHolder}
 use Rattle.slots.specs.Form.{TableEntry, WellFormed, tableBytes, IsTable, Sound}
@@ -25,8 +24,8 @@ use Rattle.slots.specs.declared.Family.{Family}
 use Rattle.slots.specs.declared.Family.the-variants.{V4, V6}
 use Rattle.slots.proofs.Theorems.{one-table, one-sound-table}
 use Rattle.table.specs.Steps.{Outcome, find, changed, without, add, remove, clear}
-use Rattle.table.specs.Calls.{Faulty, Stepped, Called, KnownPolicy}
-use Rattle.table.specs.Demand2.{others, Ordered, MayInstall, Installed, Deleted, Cleared}
+use Rattle.table.specs.Calls.{Called, KnownPolicy}
+use Rattle.table.specs.Demand2.{others, Ordered, MayInstall, Deleted, Cleared}
 use Rattle.table.proofs.CaseLaws.{Adding, add-case, Removing, remove-case, Clearing, clear-case}
 use Rattle.table.proofs.OthersLaws.{others-changed, names-changed, find-changed, others-last, find-last, others-without, find-without}
 use Rattle.table.proofs.SoundLaws.{SoundEntries, entered-well-formed, taken-well-formed, refreshed-well-formed, deleted-well-formed, keeps-name, taken-keeps-name, sound-changed, sound-last, sound-without}

@@ -1,7 +1,7 @@
 -- What a step comes to at one entry, by who holds it. Assumes nothing.
 use Prim.Native.Nat.{ℕ}
 use mathlib.Core.Bool.{Bool, true, false, cond}
-use mathlib.Core.Path.{_≡_, refl, sym, ap, subst, _∙_}
+use mathlib.Core.Path.{_≡_, sym, subst}
 use mathlib.Core.List.{List}
 use lib.Dec.{eqb}
 use borrow.Author.Tests.{eq-eqb, ne-eqb}
@@ -10,7 +10,7 @@ use Rattle.base.specs.declared.Answer.the-variants.{Accepted, Refused}
 use Rattle.slots.specs.Form.{TableEntry, slotBytes}
 use Rattle.slots.specs.declared.Holding.{Holding}
 use Rattle.slots.specs.declared.Holding.the-variants.{ByHand, ByThis, ByAnother}
-use Rattle.table.specs.Promise.{AtEntry, LeavesEntry, addedAt, removedAt}
+use Rattle.table.specs.Promise.{LeavesEntry, addedAt, removedAt}
 
 module _ (e : TableEntry) (h : Holding) (r : Answer) (left : List ℕ) where
   module _ (policy : ℕ) (same taken : TableEntry) where

@@ -1,10 +1,10 @@
 -- What is answered and left is the outcome of the step. Assumes nothing.
-use Prim.Native.Nat.{ℕ, _≤_, _<_}
+use Prim.Native.Nat.{ℕ}
 use mathlib.Core.Bool.{Bool, true, false, cond}
 use mathlib.Core.Path.{_≡_, refl, sym, ap, _∙_}
-use mathlib.Core.List.{List, [], _∷_, _++_}
-use mathlib.Core.Option.{Option, none, some}
-use lib.Dec.{ltb, eqb}
+use mathlib.Core.List.{List, _∷_, _++_}
+use mathlib.Core.Option.{none}
+use lib.Dec.{eqb}
 use lib.ListN.{length}
 use borrow.Author.Tests.{lt-ltb, le-ltb}
 use Rattle.base.specs.Bytes.{eqBytes}
@@ -17,7 +17,7 @@ use Rattle.slots.specs.Promise.{closedUp, holding, isAddress}
 use Rattle.slots.specs.declared.Family.{Family}
 use Rattle.slots.specs.declared.Holding.{Holding}
 use Rattle.slots.specs.declared.Holding.the-variants.{ByHand, ByThis, ByAnother}
-use Rattle.table.specs.Steps.{Outcome, find, changed, addedTo, adding, contested, acceptedWith, refusedWith, add, removedFrom, removing, remove, clearedFrom, clear}
+use Rattle.table.specs.Steps.{Outcome, find, changed, adding, acceptedWith, refusedWith, add, removing, remove, clear}
 use Rattle.table.specs.Promise.{AtEntry, inSlot, LeavesSlot, addedAt, removedAt, Results}
 use Rattle.table.proofs.StepLaws.{HeldAt, FreeAt, FullUp}
 

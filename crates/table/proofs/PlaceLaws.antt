@@ -1,9 +1,9 @@
 -- The place of a name, by its position and the byte that stands there. Assumes nothing.
-use Prim.Native.Nat.{ℕ, _+_, _*_, _≤_, _<_}
+use Prim.Native.Nat.{ℕ, _+_, _*_, _≤_}
 use mathlib.Core.Bool.{Bool, true, false, cond}
 use mathlib.Core.Path.{_≡_, refl, sym, ap, ap₂, _∙_}
 use mathlib.Core.List.{List, [], _∷_, _++_, nil≢cons}
-use mathlib.Core.Option.{Option, none, some}
+use mathlib.Core.Option.{Option, none}
 use native.Mathlib.Omega.{arith}
 use lib.Dec.{ltb}
 use lib.ListN.{length, drop, getD, length-append}
@@ -14,7 +14,6 @@ use Rattle.slots.specs.Form.{TableEntry, IsTable}
 use Rattle.slots.proofs.TableLaws.{none-at, some-at}
 use Rattle.table.specs.Steps.{find}
 use Rattle.table.specs.Promise.{placedBy, placeOf}
-use Rattle.table.specs.declared.place.Place.{Place}
 use Rattle.table.specs.declared.place.Place.the-variants.{Held, Free, Full}
 use Rattle.table.proofs.FoundLaws.{Standing, standing}
 

@@ -2,7 +2,7 @@
 use Prim.Native.Nat.{ℕ, suc, _+_, _≤_, _<_}
 use mathlib.Core.Bool.{Bool, true, false}
 use mathlib.Core.Path.{_≡_, refl, sym, ap, subst, _∙_}
-use mathlib.Core.List.{List, [], _∷_, _++_, map}
+use mathlib.Core.List.{List, [], _∷_, _++_}
 use mathlib.Core.Option.{Option, none, some, Option·some-ne-none}
 use native.Mathlib.Omega.{arith}
 use lib.ListN.{length, length-append, length-map}
@@ -13,7 +13,7 @@ use Rattle.base.proofs.Lists.{every-append, map-append}
 use Rattle.base.proofs.Tests.{eq-eqBytes, ne-eqBytes}
 use Rattle.name.specs.Name.{Proper, canonical}
 use Rattle.slots.specs.Effect.{entered, refreshed, takenOver, deleted}
-use Rattle.slots.specs.Entry.{Entry, names, Distinct, addressSize, other, withAddress, withHolder}
+use Rattle.slots.specs.Entry.{names, Distinct, addressSize, other, withAddress, withHolder}
 use Rattle.slots.specs.Form.{TableEntry, flag, flags, WellFormed}
 use Rattle.slots.specs.declared.Family.{Family}
 use Rattle.slots.specs.declared.Family.the-variants.{V4, V6}

@@ -1,29 +1,22 @@
 -- From the place of a name and what is left there to the outcome of a step. Assumes nothing.
 use Prim.Native.Nat.{ℕ, _+_, _-_, _*_, _≤_, _<_}
-use mathlib.Core.Bool.{Bool, true, false, cond, true≢false}
-use mathlib.Core.Path.{_≡_, refl, sym, ap, ap₂, subst, _∙_}
+use mathlib.Core.Bool.{Bool, true, false, cond}
+use mathlib.Core.Path.{_≡_, refl, sym, ap, subst, _∙_}
 use mathlib.Core.List.{List, [], _∷_, _++_, append-assoc}
 use mathlib.Core.Option.{Option, none, some}
 use native.Mathlib.Omega.{arith}
-use lib.Dec.{ltb, eqb}
-use lib.ListN.{length, take, drop, replicate, length-append}
+use lib.Dec.{ltb}
+use lib.ListN.{length, take, drop, replicate}
 use lib.Seq.{drop-drop}
 use borrow.Author.Tests.{ltb-true, ltb-false}
-use Rattle.base.specs.Bytes.{eqBytes}
 use Rattle.base.specs.declared.Answer.{Answer}
-use Rattle.base.specs.declared.Answer.the-variants.{Accepted, Refused}
-use Rattle.slots.specs.Effect.{entered, refreshed, takenOver, deleted}
-use Rattle.slots.specs.Entry.{position, addressOf}
+use Rattle.slots.specs.Entry.{position}
 use Rattle.slots.specs.Form.{TableEntry, slotBytes, WellFormed, tableBytes, IsTable}
-use Rattle.slots.specs.Promise.{closedUp, holding, isAddress}
-use Rattle.slots.specs.declared.Family.{Family}
-use Rattle.slots.specs.declared.Holding.{Holding}
-use Rattle.slots.specs.declared.Holding.the-variants.{ByHand, ByThis, ByAnother}
+use Rattle.slots.specs.Promise.{closedUp}
 use Rattle.slots.proofs.TableLaws.{length-table}
 use Rattle.slots.proofs.SplitLaws.{entry-well-formed, entry-within, slot-there, replaced, taken-out, unused-there, appended}
-use Rattle.table.specs.Steps.{Outcome, find, changed, without, addedTo, adding, add, removedFrom, removing, remove, clearedFrom, clear}
-use Rattle.table.specs.Promise.{placedBy, placeOf, AtEntry, slotAt, inSlot, LeavesEntry, LeavesSlot, addedAt, removedAt, Results}
-use Rattle.table.specs.declared.place.Place.{Place}
+use Rattle.table.specs.Steps.{find, changed, without}
+use Rattle.table.specs.Promise.{placedBy, placeOf, AtEntry, slotAt, inSlot, LeavesEntry, LeavesSlot}
 use Rattle.table.specs.declared.place.Place.the-variants.{Held, Free, Full}
 use Rattle.table.proofs.FoundLaws.{Standing, standing}
 

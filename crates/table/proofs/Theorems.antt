@@ -1,6 +1,6 @@
 -- The public theorems of `table`: what the promises of add, remove and clear say of the customer's second demand. Assumes nothing.
 use Prim.Native.Nat.{ℕ}
-use mathlib.Core.Path.{_≡_, refl, sym, ap, subst, _∙_}
+use mathlib.Core.Path.{_≡_, sym, ap, subst, _∙_}
 use mathlib.Core.Logic.{_↔_, inl, inr}
 use mathlib.Core.List.{List}
 use mathlib.Core.Option.{some}

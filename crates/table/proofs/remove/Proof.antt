@@ -1,9 +1,8 @@
-use mathlib.Core.Path.{refl, sym, ap, subst, _∙_}
+use mathlib.Core.Path.{refl, subst}
 use mathlib.Core.List.{_++_}
 use Rattle.base.specs.Bytes.{eqBytes}
 use Rattle.base.proofs.Tests.{passes}
 use Rattle.name.specs.Name.{canonical}
-use Rattle.slots.specs.Entry.{addressSize}
 use Rattle.table.specs.Steps as step
 use Rattle.table.specs.Promise.{Results}
 use Rattle.table.specs.Calls.{nameTests, clientTests, argumentTests, Removes}

@@ -1,13 +1,11 @@
-use Prim.Native.Nat.{ℕ, _-_, _*_, _+_}
-use mathlib.Core.Path.{_≡_, sym, _∙_, ap}
-use mathlib.Core.List.{List}
+use Prim.Native.Nat.{_-_, _*_, _+_}
+use mathlib.Core.Path.{_≡_}
 use native.Mathlib.Omega.{arith}
-use lib.ListN.{length, take, drop, length-take, length-drop}
+use lib.ListN.{length, drop, length-take, length-drop}
 use lib.Seq.{take-all}
 use borrow.Author.Needs.{needs}
 use borrow.Author.Tests.{not-true, not-false}
 use Rattle.base.proofs.Tests.{yes-by, no-by}
-use Rattle.slots.specs.Form.{IsSlot}
 use Rattle.slots.proofs.TableLaws.{Reached, reached-none, reached-more, reached-all, no-slot, unused-decides}
 use Rattle.slots.proofs.table.are_slots.Statement.{statement}
 use Rattle.slots.proofs.table.are_slots.Tie as tie

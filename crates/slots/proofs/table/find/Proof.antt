@@ -1,11 +1,9 @@
-use Prim.Native.Nat.{_-_, _≤_}
+use Prim.Native.Nat.{_-_}
 use mathlib.Core.Path.{sym, _∙_, ap}
-use mathlib.Core.List.{List}
 use native.Mathlib.Omega.{arith}
 use lib.ListN.{length}
 use borrow.Author.Needs.{needs}
 use Rattle.name.specs.Name.{canonical}
-use Rattle.slots.specs.Form.{TableEntry, IsTable}
 use Rattle.slots.specs.Promise.{OfTable}
 use Rattle.slots.proofs.NameLaws.{Searched, searched-none, searched-end, searched-here, searched-more}
 use Rattle.slots.proofs.TableLaws.{length-table, no-more, held-none, held-some}

@@ -1,9 +1,7 @@
-use Prim.Native.Nat.{ℕ, _+_, _-_, _≤_, _<_}
-use mathlib.Core.Path.{_≡_, refl, sym, ap, _∙_}
-use mathlib.Core.List.{List}
+use Prim.Native.Nat.{_+_, _-_}
 use denote.Ref.{now}
 use native.Mathlib.Omega.{arith}
-use lib.ListN.{length, drop, length-drop}
+use lib.ListN.{drop, length-drop}
 use Rattle.base.proofs.Fill.{Copied, copied-none, copied-more, copied-all}
 use Rattle.slots.proofs.TableLaws.{read-behind}
 use Rattle.slots.proofs.table.move_up.Statement.{statement}
