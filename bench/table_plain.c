@@ -119,6 +119,18 @@ static struct slot *find(struct slot *slots, int count, const struct name *name)
 
 /* Calls */
 
+/* What an add and a remove test behind their settings; with no fault, the number of names and the name in lower case come with it. */
+static uint64_t argument_fault(const struct slot *slots, size_t table_len, const uint8_t *name, size_t name_len, const uint8_t *dhcid, size_t dhcid_len,
+                               uint32_t family, size_t address_len, int *count, struct name *key)
+{
+    *count = count_sound(slots, table_len);
+    if (*count < 0)
+        return refuse(VICHRELKA_REFUSED_TABLE_NOT_SOUND);
+    if (!read_name(key, name, name_len))
+        return refuse(VICHRELKA_REFUSED_NO_PROPER_NAME);
+    return client_fault(dhcid, dhcid_len, family, address_len);
+}
+
 static void set_address(struct slot *s, uint32_t family, const uint8_t *address)
 {
     memcpy(address_of(s, family), address, address_room(family));
@@ -130,14 +142,10 @@ uint64_t table_add_plain(uint8_t *table, size_t table_len, const uint8_t *name, 
 {
     struct slot *slots = (struct slot *)table;
     struct name key;
+    int count;
     if ((family != 4 && family != 6) || policy > 1)
         return refuse(VICHRELKA_REFUSED_UNKNOWN_SETTING);
-    int count = count_sound(slots, table_len);
-    if (count < 0)
-        return refuse(VICHRELKA_REFUSED_TABLE_NOT_SOUND);
-    if (!read_name(&key, name, name_len))
-        return refuse(VICHRELKA_REFUSED_NO_PROPER_NAME);
-    uint64_t fault = client_fault(dhcid, dhcid_len, family, address_len);
+    uint64_t fault = argument_fault(slots, table_len, name, name_len, dhcid, dhcid_len, family, address_len, &count, &key);
     if (fault != 0)
         return fault;
 
@@ -174,14 +182,10 @@ uint64_t table_remove_plain(uint8_t *table, size_t table_len, const uint8_t *nam
 {
     struct slot *slots = (struct slot *)table;
     struct name key;
+    int count;
     if (family != 4 && family != 6)
         return refuse(VICHRELKA_REFUSED_UNKNOWN_SETTING);
-    int count = count_sound(slots, table_len);
-    if (count < 0)
-        return refuse(VICHRELKA_REFUSED_TABLE_NOT_SOUND);
-    if (!read_name(&key, name, name_len))
-        return refuse(VICHRELKA_REFUSED_NO_PROPER_NAME);
-    uint64_t fault = client_fault(dhcid, dhcid_len, family, address_len);
+    uint64_t fault = argument_fault(slots, table_len, name, name_len, dhcid, dhcid_len, family, address_len, &count, &key);
     if (fault != 0)
         return fault;
 

@@ -16,48 +16,34 @@ there (some x) = true
 abbrev sum : Option (List ℕ) → Option (List ℕ) → Option (List ℕ) → ℕ
 sum a b d = flag 1 a + flag 2 b + flag 4 d
 
-a-set : (a b d : Option (List ℕ)) → isSet 1 (sum a b d) ≡ there a
-a-set none none none = refl
-a-set none none (some d) = refl
-a-set none (some b) none = refl
-a-set none (some b) (some d) = refl
-a-set (some a) none none = refl
-a-set (some a) none (some d) = refl
-a-set (some a) (some b) none = refl
-a-set (some a) (some b) (some d) = refl
+-- each flag of a sum, by what is there
+record Said (a b d : Option (List ℕ)) : Type 0 where
+  a-said : isSet 1 (sum a b d) ≡ there a
+  aaaa-said : isSet 2 (sum a b d) ≡ there b
+  dhcid-said : isSet 4 (sum a b d) ≡ there d
 
-aaaa-set : (a b d : Option (List ℕ)) → isSet 2 (sum a b d) ≡ there b
-aaaa-set none none none = refl
-aaaa-set none none (some d) = refl
-aaaa-set none (some b) none = refl
-aaaa-set none (some b) (some d) = refl
-aaaa-set (some a) none none = refl
-aaaa-set (some a) none (some d) = refl
-aaaa-set (some a) (some b) none = refl
-aaaa-set (some a) (some b) (some d) = refl
-
-dhcid-set : (a b d : Option (List ℕ)) → isSet 4 (sum a b d) ≡ there d
-dhcid-set none none none = refl
-dhcid-set none none (some d) = refl
-dhcid-set none (some b) none = refl
-dhcid-set none (some b) (some d) = refl
-dhcid-set (some a) none none = refl
-dhcid-set (some a) none (some d) = refl
-dhcid-set (some a) (some b) none = refl
-dhcid-set (some a) (some b) (some d) = refl
+said : (a b d : Option (List ℕ)) → Said a b d
+said none none none = record { a-said = refl; aaaa-said = refl; dhcid-said = refl }
+said none none (some d) = record { a-said = refl; aaaa-said = refl; dhcid-said = refl }
+said none (some b) none = record { a-said = refl; aaaa-said = refl; dhcid-said = refl }
+said none (some b) (some d) = record { a-said = refl; aaaa-said = refl; dhcid-said = refl }
+said (some a) none none = record { a-said = refl; aaaa-said = refl; dhcid-said = refl }
+said (some a) none (some d) = record { a-said = refl; aaaa-said = refl; dhcid-said = refl }
+said (some a) (some b) none = record { a-said = refl; aaaa-said = refl; dhcid-said = refl }
+said (some a) (some b) (some d) = record { a-said = refl; aaaa-said = refl; dhcid-said = refl }
 
 module _ (e : TableEntry) where
   pub flag-a : isSet 1 (flags e) ≡ there (e .a)
   unfolding flags
-  flag-a = a-set (e .a) (e .aaaa) (e .holder)
+  flag-a = said (e .a) (e .aaaa) (e .holder) .a-said
 
   pub flag-aaaa : isSet 2 (flags e) ≡ there (e .aaaa)
   unfolding flags
-  flag-aaaa = aaaa-set (e .a) (e .aaaa) (e .holder)
+  flag-aaaa = said (e .a) (e .aaaa) (e .holder) .aaaa-said
 
   pub flag-dhcid : isSet 4 (flags e) ≡ there (e .holder)
   unfolding flags
-  flag-dhcid = dhcid-set (e .a) (e .aaaa) (e .holder)
+  flag-dhcid = said (e .a) (e .aaaa) (e .holder) .dhcid-said
 
 flag-most : (bit : ℕ) (o : Option (List ℕ)) → flag bit o ≤ bit
 flag-most bit none = omega arith
