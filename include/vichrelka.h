@@ -43,6 +43,9 @@ extern "C" {
 #define VICHRELKA_SLOT_LEN 312
 #define VICHRELKA_TABLE_LEN (VICHRELKA_TABLE_NAMES * VICHRELKA_SLOT_LEN)
 
+/* The most bytes that a table is as a listing: 883 for each name, so that this much output is always enough. */
+#define VICHRELKA_WRITTEN_LIMIT (VICHRELKA_TABLE_NAMES * 883)
+
 /* The numbers of the refusals. A level of a DHCPv6 message is a relay's message, or the client's, which stands inside them all. An
    entry of a listing is a line, or several lines that parentheses hold together. */
 enum vichrelka_refused {
@@ -69,7 +72,7 @@ enum vichrelka_refused {
     VICHRELKA_REFUSED_TOO_MANY_RELAYS = 11,
     /* the family is not 4 or 6, or the setting or the policy not 0 or 1 */
     VICHRELKA_REFUSED_UNKNOWN_SETTING = 12,
-    /* there is less room for the output than what is to be written */
+    /* there is less room for the output, or for the table in a load, than what is to be written */
     VICHRELKA_REFUSED_OUTPUT_SHORT = 13,
     /* identifier and name have more than 4,096 bytes together: the rules have this number, and no message leads to it */
     VICHRELKA_REFUSED_HASH_INPUT_LONG = 14,
@@ -93,12 +96,14 @@ enum vichrelka_refused {
     VICHRELKA_REFUSED_HELD_BY_ANOTHER = 30,
     /* the name has no DHCID: it is kept by hand, and no client gets it */
     VICHRELKA_REFUSED_KEPT_BY_HAND = 31,
-    /* the name is not in the table, and VICHRELKA_TABLE_NAMES others are */
+    /* the name is not in the table, and VICHRELKA_TABLE_NAMES others are; a listing that is loaded has more names than that */
     VICHRELKA_REFUSED_TABLE_FULL = 32,
     /* the name is not in the table */
     VICHRELKA_REFUSED_NAME_NOT_HELD = 33,
     /* the name has no address of that family, or another one */
     VICHRELKA_REFUSED_ADDRESS_DIFFERS = 34,
+    /* a listing that is loaded has two records of one type for one name, be they the same or not */
+    VICHRELKA_REFUSED_RECORD_REPEATED = 35,
     /* the table is not VICHRELKA_TABLE_LEN bytes, or they are not those of a table: see below, "The table of names" */
     VICHRELKA_REFUSED_TABLE_NOT_SOUND = 40
 };
@@ -213,7 +218,7 @@ uint64_t vichrelka_listing_check(const uint8_t *text, size_t text_len);
 /*
  * The table of names: up to VICHRELKA_TABLE_NAMES names in order of arrival, each with at most one A, one AAAA and one DHCID, and at least
  * one of the three. It is VICHRELKA_TABLE_LEN bytes of yours; all zeros is the empty table, and they may be stored, copied and compared
- * as they are. Every call tests that they are sound, and leaves them so:
+ * as they are. Every call but the load tests that they are sound, and each leaves them so:
  *
  *     a slot       the name's wire length (1 byte), the name (255), flags (1), A (4), AAAA (16), DHCID (35)
  *     flags        1 A, 2 AAAA, 4 DHCID; at least one of them
@@ -223,7 +228,7 @@ uint64_t vichrelka_listing_check(const uint8_t *text, size_t text_len);
  *
  * A name without a DHCID is kept by hand, and no client gets it. Names are given in wire form, in either case, and are stored in lower case.
  *
- * The calls below have place 0 in every refusal, and then have changed nothing. They write to the table alone.
+ * Add, remove and clear have place 0 in every refusal, and then have changed nothing. They write to the table alone.
  */
 
 /*
@@ -257,6 +262,32 @@ uint64_t vichrelka_table_remove(uint8_t *table, size_t table_len,
  * Refusals, in order: 40, 9, 33.
  */
 uint64_t vichrelka_table_clear(uint8_t *table, size_t table_len, const uint8_t *name, size_t name_len);
+
+/*
+ * Write the table as a listing, at the beginning of out. Its value is the number of bytes written, 0 for the empty table; the bytes of
+ * out behind them stay as they are. VICHRELKA_WRITTEN_LIMIT bytes of out are always enough.
+ *
+ * The names stand in their order, each with its A, its AAAA and its DHCID, as far as it has them, a record on a line:
+ *
+ *     client.example.com. A 192.0.2.40
+ *     client.example.com. AAAA 2001:0db8:0000:0000:0000:0000:0000:0028
+ *     client.example.com. DHCID AAABxLmlskllE0MVjd57zHcWmEH3pCQ6VytcKD//7es/deY=
+ *
+ * What is written is a listing of just these records, and vichrelka_table_load makes the same table of it, byte for byte.
+ *
+ * Refusals, in order, with place 0: 40; 13 for fewer bytes of out than the listing has. Where it is refused nothing is written.
+ */
+uint64_t vichrelka_table_write(const uint8_t *table, size_t table_len, uint8_t *out, size_t out_len);
+
+/*
+ * Load a listing: replace the first VICHRELKA_TABLE_LEN bytes of table, whatever they were, by the table of its records, the names in the
+ * order of their first records. Its value is 0. The bytes that stood there are not looked at, and need not be a table's. Lend just
+ * VICHRELKA_TABLE_LEN bytes: of a longer area those behind stay as they are, and the other calls answer 40 to such an area.
+ *
+ * Refusals, in order: those of vichrelka_listing_check, with their places; then, with place 0, 35, 32 for more than VICHRELKA_TABLE_NAMES
+ * names, and 13 for fewer than VICHRELKA_TABLE_LEN bytes of table. Where it is refused the table is as it was.
+ */
+uint64_t vichrelka_table_load(uint8_t *table, size_t table_len, const uint8_t *text, size_t text_len);
 
 #ifdef __cplusplus
 }

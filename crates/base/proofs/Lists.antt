@@ -1,12 +1,12 @@
 -- Laws on lists and on the notions of specs/Logic.antt. Assumes nothing.
 use Prim.Native.Nat.{ℕ, zero, suc, _+_, _-_, _<_}
 use mathlib.Core.Bool.{Bool, true, false, true≢false}
-use mathlib.Core.Path.{_≡_, refl, sym, ap, ap₂, _∙_}
+use mathlib.Core.Path.{_≡_, refl, sym, ap, ap₂, subst, _∙_}
 use mathlib.Core.List.{List, [], _∷_, _++_, map, nil≢cons, cons≢nil, head-eq-of-cons-eq, tail-eq-of-cons-eq}
 use native.Mathlib.Nat.{add-zero}
 use native.Mathlib.Numerals.{add-one}
 use native.Mathlib.Omega.{arith}
-use lib.ListN.{length, getD, take, drop}
+use lib.ListN.{length, getD, take, drop, take-append-drop}
 use lib.Seq.{take-at, drop-at, take-nil, take-suc, drop-drop, getD-drop}
 use Rattle.base.specs.Logic.{Every, Pairwise}
 
@@ -63,6 +63,23 @@ module _ {A : Type 0} {P : A → Type 0} where
   pub every-middle : (l m : List A) (a : A) → Every P (l ++ a ∷ m) → P a
   every-middle [] m a (Every.more h hl) = h
   every-middle (b ∷ l) m a (Every.more h hl) = every-middle l m a hl
+
+  -- the parts
+  pub every-left : (l m : List A) → Every P (l ++ m) → Every P l
+  every-left [] m h = Every.none
+  every-left (a ∷ l) m (Every.more p h) = Every.more p (every-left l m h)
+
+  pub every-right : (l m : List A) → Every P (l ++ m) → Every P m
+  every-right [] m h = h
+  every-right (a ∷ l) m (Every.more p h) = every-right l m h
+
+  pub every-take : (n : ℕ) (l : List A) → Every P l → Every P (take n l)
+  every-take n l h = every-left (take n l) (drop n l) (subst (Every P) (sym (take-append-drop n l)) h)
+
+  -- one property for another
+  pub every-by : {Q : A → Type 0} → ((a : A) → P a → Q a) → {l : List A} → Every P l → Every Q l
+  every-by g Every.none = Every.none
+  every-by g (Every.more {a} p h) = Every.more (g a p) (every-by g h)
 
 pub pairwise-on : {A B : Type 0} {R : A → B → Type 0} (l : List A) (m : List B) (a : A) (b : B) → Pairwise R l m → R a b → Pairwise R (l ++ a ∷ []) (m ++ b ∷ [])
 pairwise-on [] [] a b Pairwise.none r = Pairwise.more r Pairwise.none

@@ -7,6 +7,7 @@ pub mod slice;
 
 ghost use mathlib.Core.Path.{_≡_};
 ghost use Rattle.base.specs.Answer as spec;
+ghost use Rattle.base.specs.declared.Answer.the-variants.{Refused};
 
 // What a call answers: accepted, with a value that the call gives a meaning; or refused, with a number of `refusal`
 // and, where a listing was read, the offset of the faulty entry (document 01 calls it the place), else 0.
@@ -16,6 +17,16 @@ pub enum Answer {
 }
 
 impl Answer {
+    // A refusal that no entry of a listing is at fault for.
+    pub fn refused(number: u32) -> Answer
+        ensures { λ r. ⌜ r ≡ Refused number 0 ⌝ }
+    {
+        Answer::Refused {
+            number: number,
+            offset: 0,
+        }
+    }
+
     // The answer as C gets it: the high 32 bits are the refusal's number, the low 32 bits its offset; or 0 and the value.
     pub fn for_c(self) -> u64
         ensures { λ r. ⌜ r ≡ spec.forC self ⌝ }

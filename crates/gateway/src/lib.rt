@@ -6,6 +6,7 @@ ghost use Rattle.grammar.proofs.Reader as reader;
 ghost use Rattle.listing.specs.Reading.{limit, counted};
 ghost use Rattle.dhcid.specs.Chosen.{placeAnswer};
 ghost use Rattle.dhcid.specs.Choosing.{choose, writingAnswer, writingOutput};
+ghost use Rattle.records.specs.Calls.{Writes, Loads};
 ghost use Rattle.table.specs.Calls.{Adds, Removes, Clears};
 
 // uint64_t vichrelka_name(uint32_t family, uint32_t setting, const uint8_t *message, size_t message_len, const uint8_t *site, size_t site_len)
@@ -77,4 +78,20 @@ pub extern "C" fn vichrelka_table_clear(table: &mut [u8], name: &[u8]) -> u64
     ensures { λ r. ⌜ Tells r (λ a. Clears 64 (now (table .entry)) (now (name .entry)) a (now (table .exit))) ⌝ }
 {
     table::clear(table, name).for_c()
+}
+
+// uint64_t vichrelka_table_write(const uint8_t *table, size_t table_len, uint8_t *out, size_t out_len)
+#[no_mangle]
+pub extern "C" fn vichrelka_table_write(table: &[u8], out: &mut [u8]) -> u64
+    ensures { λ r. ⌜ Tells r (λ a. Writes 64 (now (table .entry)) (now (out .entry)) a (now (out .exit))) ⌝ }
+{
+    table_write::write(table, out).for_c()
+}
+
+// uint64_t vichrelka_table_load(uint8_t *table, size_t table_len, const uint8_t *text, size_t text_len)
+#[no_mangle]
+pub extern "C" fn vichrelka_table_load(table: &mut [u8], text: &[u8]) -> u64
+    ensures { λ r. ⌜ Tells r (λ a. Loads limit 64 (now (text .entry)) (now (table .entry)) a (now (table .exit))) ⌝ }
+{
+    table_load::load(table, text).for_c()
 }

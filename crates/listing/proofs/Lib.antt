@@ -3,4 +3,5 @@ pub mod CheckLaws
 pub mod StepLaws
 pub mod SpellingLaws
 pub mod GivingLaws
+pub mod NextLaws
 pub mod Theorems

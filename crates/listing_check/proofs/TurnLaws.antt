@@ -1,9 +1,7 @@
 -- The loop over the records of a right listing: what stands next, and what one turn leaves. Assumes nothing.
 use Prim.Native.Nat.{ℕ, _≤_, _<_}
-use mathlib.Core.Bool.{Bool, true, false, true≢false}
-use mathlib.Core.Path.{_≡_, sym, ap, subst, _∙_}
+use mathlib.Core.Path.{_≡_, ap, subst, _∙_}
 use mathlib.Core.List.{List, [], _∷_}
-use mathlib.Core.Logic.{⊎-elim}
 use native.Mathlib.Omega.{arith}
 use types.Run.{OneOf}
 use denote.Enum.Declared.{tagOf}
@@ -16,13 +14,13 @@ use Rattle.entry.specs.EntryIs.{held}
 use Rattle.entry.proofs.EntryLaws.{empty}
 use Rattle.writer.specs.Line.{WellFormed, Holds}
 use Rattle.writer.proofs.Theorems.{spelled-well-formed}
-use Rattle.listing.specs.Reading.{limit, counted, FoundIs, StepIs}
-use Rattle.listing.specs.Giving.{end, whole, Next, Answers}
-use Rattle.listing.specs.declared.Found.{Found}
+use Rattle.listing.specs.Reading.{limit, counted, StepIs}
+use Rattle.listing.specs.Giving.{end, Gives, whole}
 use Rattle.listing.specs.declared.Found.the-variants
 use Rattle.listing.specs.declared.Step.{Step}
 use Rattle.listing.proofs.Found.{the-type}
-use Rattle.listing.proofs.Theorems.{accepted-only, step-answers}
+use Rattle.listing.proofs.NextLaws.{next-record as found-record, none-left}
+use Rattle.listing.proofs.Theorems.{accepted-only}
 use Rattle.listing.proofs.SpellingLaws.{spells-by}
 use Rattle.listing_check.specs.Printing.{Right, TurnIs, put, none}
 use Rattle.listing_check.specs.declared.Turn.{Turn}
@@ -32,11 +30,6 @@ pub accepted-right : (t : List ℕ) (n : ℕ) → counted (check limit t) ≡ Ac
 accepted-right t n e = let a = accepted-only t n e in record { short = a .3; records = a .0; spelled = a .1 }
 
 -- ---- what stands next, as the step has found it
-
-isEnd : Found → Bool
-isEnd the-variants.Record = false
-isEnd the-variants.End = true
-isEnd (the-variants.Refused n p) = false
 
 -- a record, and the records after it
 pub record NextIs (t : List ℕ) (at : ℕ) (s : Step) : Type 0 where
@@ -54,31 +47,21 @@ next-holds t at s n = record { place = n .holds; well-formed = first (spelled-we
     first : {r : ResourceRecord} {rs : List ResourceRecord} → Every WellFormed (r ∷ rs) → WellFormed r
     first (more w ws) = w
 
+given-spells : {t : List ℕ} {at : ℕ} {rs : List ResourceRecord} → Gives t at rs end → Spells (drop at t) rs
+given-spells (whole fits s) = s
+
 module _ (t : List ℕ) (at : ℕ) (is-right : Right t at) (s : Step) (is : StepIs t at s) where
-  -- the step is the next answer of a text that spells these records from at on
-  next : Next t (is-right .records) end s
-  unfolding Answers
-  next = step-answers t at s is (is-right .records) end (whole (is-right .short) (is-right .spelled))
+  given : Gives t at (is-right .records) end
+  given = whole (is-right .short) (is-right .spelled)
 
   pub next-record : s .found ≡ the-variants.Record → NextIs t at s
-  unfolding isEnd
-  next-record q = go (is-right .records) (is-right .spelled) next
-    where
-      on : at < s .next
-      on = subst (λ (f : Found). FoundIs t at f (s .«record») (s .next)) q (is .found (is-right .short)) .2
-
-      go : (rs : List ResourceRecord) → Spells (drop at t) rs → Next t rs end s → NextIs t at s
-      go [] spells (e, place, gives) = absurd (true≢false (ap isEnd (sym e ∙ q)))
-      go (r ∷ rs) spells (e, place, whole fits rest) = record { head = r; rest = rs; spelled = spells; holds = place; on = on; goes-on = rest }
+  next-record q =
+      let n = found-record t at s is (is-right .records) given q in
+      record { head = n .head; rest = n .rest; spelled = subst (Spells (drop at t)) (n .order) (is-right .spelled); holds = n .holds; on = n .on; goes-on = given-spells (n .goes-on) }
 
   -- no record stands next, and a refusal cannot
   pub next-none : OneOf (1 ∷ 2 ∷ []) (tagOf the-type (s .found)) → Spells (drop at t) []
-  next-none other = go (is-right .records) (is-right .spelled) next
-    where
-      go : (rs : List ResourceRecord) → Spells (drop at t) rs → Next t rs end s → Spells (drop at t) []
-      go [] spells n = spells
-      go (r ∷ rs) spells (e, place, gives) =
-          absurd (⊎-elim (λ z. omega arith) (λ z. omega arith) (subst (λ (f : Found). OneOf (1 ∷ 2 ∷ []) (tagOf the-type f)) e other))
+  next-none other = subst (Spells (drop at t)) (none-left t at s is (is-right .records) given other .order) (is-right .spelled)
 
 -- ---- one turn
 

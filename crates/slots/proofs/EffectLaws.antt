@@ -1,25 +1,29 @@
 -- What the writes of a slot leave, as the slots of entries, and what its fields say. Assumes nothing.
 use Prim.Native.Nat.{ℕ, _+_, _-_, _%_, _≤_}
 use mathlib.Core.Bool.{Bool, true, false, cond, true≢false, false≢true}
-use mathlib.Core.Path.{_≡_, refl, sym, ap, _∙_}
+use mathlib.Core.Path.{_≡_, refl, sym, ap, ap₂, _∙_}
 use mathlib.Core.List.{List, [], _∷_, _++_, append-assoc}
 use mathlib.Core.Option.{Option, none, some}
 use native.Mathlib.Nat.{div-eq-of-lt}
 use native.Mathlib.Omega.{arith}
 use lib.Dec.{eqb}
-use lib.ListN.{length, take, drop, getD, set, replicate, length-replicate, replicate-append-replicate}
+use lib.ListN.{length, take, drop, getD, set, replicate, length-drop, length-replicate, replicate-append-replicate}
+use lib.Seq.{length-take-le, take-take}
 use Rattle.base.specs.Bytes.{overlay, eqBytes}
 use Rattle.base.proofs.Bytes.{set-overlay}
 use Rattle.base.proofs.Tests.{by-ltb}
 use Rattle.name.specs.Name.{padded}
 use Rattle.slots.specs.Entry.{addressOf, addressSize, withAddress, withHolder}
+use Rattle.slots.specs.Fields.{bare, there, inField, withField, fieldAt, fieldSize, fieldBit}
 use Rattle.slots.specs.Form.{TableEntry, WellFormed, field, flag, flags, slotBytes, IsSlot}
 use Rattle.slots.specs.Promise.{isSet, raised, lowered, bitOf, offsetOf, fieldPut, fieldCleared, holding, isAddress}
 use Rattle.slots.specs.declared.Family.{Family}
 use Rattle.slots.specs.declared.Family.the-variants.{V4, V6}
 use Rattle.slots.specs.declared.Holding.the-variants.{ByHand, ByThis, ByAnother}
-use Rattle.slots.proofs.FlagLaws.{there, flag-a, flag-aaaa, flag-dhcid, flags-most}
-use Rattle.slots.proofs.LaidLaws.{Sizes, laid, regroup, overlay-at, length-laid, flags-of, a-of, aaaa-of, dhcid-of, write-flags, write-a, write-aaaa, write-dhcid, slot-sizes, length-padded}
+use Rattle.slots.specs.declared.Rtype.{Rtype}
+use Rattle.slots.specs.declared.Rtype.the-variants.{A, Aaaa, Dhcid}
+use Rattle.slots.proofs.FlagLaws.{flag-a, flag-aaaa, flag-dhcid, flags-most}
+use Rattle.slots.proofs.LaidLaws.{Sizes, laid, regroup, overlay-at, length-laid, flags-of, a-of, aaaa-of, dhcid-of, write-flags, write-a, write-aaaa, write-dhcid, slot-sizes, slot-length, slot-name, length-padded}
 
 -- ---- flags
 
@@ -49,6 +53,31 @@ pub address-fits : (f : Family) → offsetOf f + addressSize f ≤ 277
 address-fits V4 = omega arith
 address-fits V6 = omega arith
 
+pub field-bit-some : (k : Rtype) → 1 ≤ fieldBit k
+field-bit-some A = omega arith
+field-bit-some Aaaa = omega arith
+field-bit-some Dhcid = omega arith
+
+pub field-bit-small : (k : Rtype) → fieldBit k ≤ 4
+field-bit-small A = omega arith
+field-bit-small Aaaa = omega arith
+field-bit-small Dhcid = omega arith
+
+pub field-fits : (k : Rtype) → fieldAt k + fieldSize k ≤ 312
+field-fits A = omega arith
+field-fits Aaaa = omega arith
+field-fits Dhcid = omega arith
+
+field-size-most : (k : Rtype) → fieldSize k ≤ 35
+field-size-most A = omega arith
+field-size-most Aaaa = omega arith
+field-size-most Dhcid = omega arith
+
+pub field-offset-most : (k : Rtype) → fieldAt k ≤ 277
+field-offset-most A = omega arith
+field-offset-most Aaaa = omega arith
+field-offset-most Dhcid = omega arith
+
 -- ---- a slot that is being written: it need not have a flag yet
 
 pub record SlotOf (e : TableEntry) (b : List ℕ) : Type 0 where
@@ -57,6 +86,12 @@ pub record SlotOf (e : TableEntry) (b : List ℕ) : Type 0 where
 
 pub slot-of : {e : TableEntry} {b : List ℕ} → WellFormed e → b ≡ slotBytes e → SlotOf e b
 slot-of {e} w form = record { sizes = slot-sizes e w; form = form }
+
+-- the name, by the length that stands before it
+pub held-name : {e : TableEntry} {b : List ℕ} → WellFormed e → b ≡ slotBytes e → take (1 + getD b 0 0 - 1) (drop 1 b) ≡ e .name
+held-name {e} {b} w form =
+    let size : 1 + getD b 0 0 - 1 ≡ length (e .name) = omega (arith, ap (λ (t : List ℕ). getD t 0 0) form ∙ slot-length e w) in
+    ap₂ (λ (n : ℕ) (t : List ℕ). take n (drop 1 t)) size form ∙ slot-name e w
 
 pub entry-of : (b : List ℕ) → IsSlot b → TableEntry
 unfolding IsSlot
@@ -78,19 +113,36 @@ module _ {e : TableEntry} {b : List ℕ} (s : SlotOf e b) where
   small = omega (arith, flags-at, flags-most e)
 
   -- what its fields say
+  pub field-flag : (k : Rtype) → isSet (fieldBit k) (getD b 256 0) ≡ there (inField k e)
+  field-flag A = ap (isSet 1) flags-at ∙ flag-a e
+  field-flag Aaaa = ap (isSet 2) flags-at ∙ flag-aaaa e
+  field-flag Dhcid = ap (isSet 4) flags-at ∙ flag-dhcid e
+
+  pub field-at : (k : Rtype) → take (fieldSize k) (drop (fieldAt k) b) ≡ field (fieldSize k) (inField k e)
+  field-at A = ap (λ (t : List ℕ). take 4 (drop 257 t)) (s .form) ∙ a-of e (s .sizes)
+  field-at Aaaa = ap (λ (t : List ℕ). take 16 (drop 261 t)) (s .form) ∙ aaaa-of e (s .sizes)
+  field-at Dhcid = ap (λ (t : List ℕ). take 35 (drop 277 t)) (s .form) ∙ dhcid-of e (s .sizes)
+
+  -- 35 bytes from a field's first on begin with it
+  pub data-long : (k : Rtype) → length (take 35 (drop (fieldAt k) b)) ≡ 35
+  data-long k = length-take-le 35 (drop (fieldAt k) b) (simp length-drop (omega (arith, long, field-offset-most k)))
+
+  pub data-first : (k : Rtype) → take (fieldSize k) (take 35 (drop (fieldAt k) b)) ≡ field (fieldSize k) (inField k e)
+  data-first k = take-take (fieldSize k) 35 (drop (fieldAt k) b) (field-size-most k) ∙ field-at k
+
   pub held-flag : isSet 4 (getD b 256 0) ≡ there (e .holder)
-  held-flag = ap (λ (v : ℕ). isSet 4 v) flags-at ∙ flag-dhcid e
+  held-flag = field-flag Dhcid
 
   pub holder-at : take 35 (drop 277 b) ≡ field 35 (e .holder)
-  holder-at = ap (λ (t : List ℕ). take 35 (drop 277 t)) (s .form) ∙ dhcid-of e (s .sizes)
+  holder-at = field-at Dhcid
 
   pub address-flag : (f : Family) → isSet (bitOf f) (getD b 256 0) ≡ there (addressOf f e)
-  address-flag V4 = ap (λ (v : ℕ). isSet 1 v) flags-at ∙ flag-a e
-  address-flag V6 = ap (λ (v : ℕ). isSet 2 v) flags-at ∙ flag-aaaa e
+  address-flag V4 = field-flag A
+  address-flag V6 = field-flag Aaaa
 
   pub address-at : (f : Family) → take (addressSize f) (drop (offsetOf f) b) ≡ field (addressSize f) (addressOf f e)
-  address-at V4 = ap (λ (t : List ℕ). take 4 (drop 257 t)) (s .form) ∙ a-of e (s .sizes)
-  address-at V6 = ap (λ (t : List ℕ). take 16 (drop 261 t)) (s .form) ∙ aaaa-of e (s .sizes)
+  address-at V4 = field-at A
+  address-at V6 = field-at Aaaa
 
   -- other flags
   flags-by : (g : ℕ → ℕ) (v : ℕ) → g (flags e) ≡ v
@@ -102,22 +154,36 @@ module _ {e : TableEntry} {b : List ℕ} (s : SlotOf e b) where
       ∙ write-flags (length (e .name)) _ (flags e) _ _ _ (s .sizes) v
 
   -- b′ has one field put, or cleared
-  pub address-put : (f : Family) (x : List ℕ) {b′ : List ℕ} → length x ≡ addressSize f → b′ ≡ fieldPut b (bitOf f) (offsetOf f) x → SlotOf (withAddress f (some x) e) b′
+  pub field-put : (k : Rtype) (x : List ℕ) {b′ : List ℕ} → length x ≡ fieldSize k → b′ ≡ fieldPut b (fieldBit k) (fieldAt k) x → SlotOf (withField k x e) b′
   unfolding slotBytes flags fieldPut
-  address-put V4 x size is =
-      let v = flags (withAddress V4 (some x) e) in
+  field-put A x size is =
+      let v = flags (withField A x e) in
       let sum : raised 1 (flags e) ≡ v = raised-is 1 (flag 2 (e .aaaa) + flag 4 (e .holder)) (flags e) (e .a) (flag-a e) (omega arith) ∙ omega arith in
       record {
         sizes = record { name = s .sizes .name; a = size; aaaa = s .sizes .aaaa; dhcid = s .sizes .dhcid };
         form = is ∙ ap (λ (t : List ℕ). overlay t 257 x) (flags-by (raised 1) v sum) ∙ write-a (length (e .name)) _ v _ _ _ (s .sizes) x size;
       }
-  address-put V6 x size is =
-      let v = flags (withAddress V6 (some x) e) in
+  field-put Aaaa x size is =
+      let v = flags (withField Aaaa x e) in
       let sum : raised 2 (flags e) ≡ v = raised-is 2 (flag 1 (e .a) + flag 4 (e .holder)) (flags e) (e .aaaa) (flag-aaaa e) (omega arith) ∙ omega arith in
       record {
         sizes = record { name = s .sizes .name; a = s .sizes .a; aaaa = size; dhcid = s .sizes .dhcid };
         form = is ∙ ap (λ (t : List ℕ). overlay t 261 x) (flags-by (raised 2) v sum) ∙ write-aaaa (length (e .name)) _ v _ _ _ (s .sizes) x size;
       }
+  field-put Dhcid x size is =
+      let v = flags (withField Dhcid x e) in
+      let sum : raised 4 (flags e) ≡ v = raised-is 4 (flag 1 (e .a) + flag 2 (e .aaaa)) (flags e) (e .holder) (flag-dhcid e) (omega arith) ∙ omega arith in
+      record {
+        sizes = record { name = s .sizes .name; a = s .sizes .a; aaaa = s .sizes .aaaa; dhcid = size };
+        form = is ∙ ap (λ (t : List ℕ). overlay t 277 x) (flags-by (raised 4) v sum) ∙ write-dhcid (length (e .name)) _ v _ _ _ (s .sizes) x size;
+      }
+
+  pub address-put : (f : Family) (x : List ℕ) {b′ : List ℕ} → length x ≡ addressSize f → b′ ≡ fieldPut b (bitOf f) (offsetOf f) x → SlotOf (withAddress f (some x) e) b′
+  address-put V4 x size is = field-put A x size is
+  address-put V6 x size is = field-put Aaaa x size is
+
+  pub holder-put : (d : List ℕ) {b′ : List ℕ} → length d ≡ 35 → b′ ≡ fieldPut b 4 277 d → SlotOf (withHolder d e) b′
+  holder-put d size is = field-put Dhcid d size is
 
   pub address-cleared : (f : Family) {b′ : List ℕ} → b′ ≡ fieldCleared b (bitOf f) (offsetOf f) (addressSize f) → SlotOf (withAddress f none e) b′
   unfolding slotBytes flags fieldCleared
@@ -136,21 +202,7 @@ module _ {e : TableEntry} {b : List ℕ} (s : SlotOf e b) where
         form = is ∙ ap (λ (t : List ℕ). overlay t 261 (replicate 16 0)) (flags-by (lowered 2) v sum) ∙ write-aaaa (length (e .name)) _ v _ _ _ (s .sizes) (replicate 16 0) refl;
       }
 
-  pub holder-put : (d : List ℕ) {b′ : List ℕ} → length d ≡ 35 → b′ ≡ fieldPut b 4 277 d → SlotOf (withHolder d e) b′
-  unfolding slotBytes flags fieldPut
-  holder-put d size is =
-      let v = flags (withHolder d e) in
-      let sum : raised 4 (flags e) ≡ v = raised-is 4 (flag 1 (e .a) + flag 2 (e .aaaa)) (flags e) (e .holder) (flag-dhcid e) (omega arith) ∙ omega arith in
-      record {
-        sizes = record { name = s .sizes .name; a = s .sizes .a; aaaa = s .sizes .aaaa; dhcid = size };
-        form = is ∙ ap (λ (t : List ℕ). overlay t 277 d) (flags-by (raised 4) v sum) ∙ write-dhcid (length (e .name)) _ v _ _ _ (s .sizes) d size;
-      }
-
 -- ---- a name written over zeros
-
--- a name and nothing under it
-abbrev pub bare : List ℕ → TableEntry
-bare n = record { name = n; a = none; aaaa = none; holder = none }
 
 abbrev zeros : ℕ → List ℕ
 zeros k = replicate k 0

@@ -1,17 +1,12 @@
 -- The flags of a slot: each says whether its field is there. Assumes nothing.
 use Prim.Native.Nat.{ℕ, _+_, _≤_}
-use mathlib.Core.Bool.{Bool, true, false}
 use mathlib.Core.Path.{_≡_, refl}
 use mathlib.Core.List.{List}
 use mathlib.Core.Option.{Option, none, some}
 use native.Mathlib.Omega.{arith}
+use Rattle.slots.specs.Fields.{there}
 use Rattle.slots.specs.Form.{TableEntry, flag, flags}
 use Rattle.slots.specs.Promise.{isSet}
-
--- is there something?
-abbrev pub there : {A : Type 0} → Option A → Bool
-there none = false
-there (some x) = true
 
 abbrev sum : Option (List ℕ) → Option (List ℕ) → Option (List ℕ) → ℕ
 sum a b d = flag 1 a + flag 2 b + flag 4 d

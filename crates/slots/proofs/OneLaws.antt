@@ -7,9 +7,10 @@ use mathlib.Core.Option.{Option, none, some}
 use native.Mathlib.Nat.{suc-ne-zero}
 use native.Mathlib.Omega.{arith}
 use lib.ListN.{length, take, drop, getD, drop-of-length-le}
+use Rattle.slots.specs.Fields.{there}
 use Rattle.slots.specs.Form.{TableEntry, field, flags, slotBytes, WellFormed, IsTable}
 use Rattle.slots.specs.Promise.{isSet}
-use Rattle.slots.proofs.FlagLaws.{there, flag-a, flag-aaaa, flag-dhcid}
+use Rattle.slots.proofs.FlagLaws.{flag-a, flag-aaaa, flag-dhcid}
 use Rattle.slots.proofs.LaidLaws.{slot-sizes, slot-length, slot-name, flags-of, a-of, aaaa-of, dhcid-of}
 use Rattle.slots.proofs.TableLaws.{unused-from, used-from}
 

@@ -14,10 +14,11 @@ use Rattle.base.specs.Logic.{IfSome, Decides}
 use Rattle.base.proofs.Lists.{append-split}
 use Rattle.base.proofs.Tests.{decides-as, below, at-each}
 use Rattle.name.specs.Name.{Proper, canonical, padded}
+use Rattle.slots.specs.Fields.{there}
 use Rattle.slots.specs.Form.{TableEntry, field, flag, flags, slotBytes, WellFormed, IsSlot}
 use Rattle.slots.specs.Promise.{isSet}
 use Rattle.slots.specs.SlotTests.{HeldName, ZeroUnlessSet, Fields, FieldsIn}
-use Rattle.slots.proofs.FlagLaws.{there, flag-a, flag-aaaa, flag-dhcid, flags-most}
+use Rattle.slots.proofs.FlagLaws.{flag-a, flag-aaaa, flag-dhcid, flags-most}
 use Rattle.slots.proofs.LaidLaws.{laid, as-laid, slot-laid, slot-sizes, slot-length, slot-name, laid-name, flags-of, a-of, aaaa-of, dhcid-of}
 
 -- ---- a field and its flag

@@ -7,7 +7,7 @@ use lib.ListN.{length, take, drop, replicate, length-append, replicate-append-re
 use lib.Seq.{take-at, drop-at, drop-drop}
 use Rattle.base.specs.Logic.{Every}
 use Rattle.base.proofs.Bytes.{take-replicate, drop-replicate}
-use Rattle.base.proofs.Lists.{every-middle}
+use Rattle.base.proofs.Lists.{every-middle, every-left}
 use Rattle.slots.specs.Form.{TableEntry, slotBytes, WellFormed, usedSlots, tableBytes, IsTable}
 use Rattle.slots.specs.Promise.{closedUp}
 use Rattle.slots.proofs.LaidLaws.{length-slot}
@@ -26,13 +26,9 @@ table-split k p r =
     ap₂ (λ (b : List ℕ) (n : ℕ). b ++ replicate (312 * n) 0) (used-append p r) left
     ∙ append-assoc (usedSlots p) (usedSlots r) (replicate (312 * (k - length p - length r)) 0)
 
-every-front : (p r : List TableEntry) → Every WellFormed (p ++ r) → Every WellFormed p
-every-front [] r h = Every.none
-every-front (e ∷ p) r (Every.more w h) = Every.more w (every-front p r h)
-
 module _ (k : ℕ) (p r : List TableEntry) (b : List ℕ) (h : IsTable k (p ++ r) b) where
   front-size : length (usedSlots p) ≡ 312 * length p
-  front-size = length-used p (every-front p r (h .each))
+  front-size = length-used p (every-left p r (h .each))
 
   cut : b ≡ usedSlots p ++ tableBytes (k - length p) r
   cut = h .form ∙ table-split k p r

@@ -24,6 +24,10 @@ pub table-none : (k : ℕ) → tableBytes k [] ≡ replicate (312 * k) 0
 unfolding tableBytes usedSlots
 table-none k = let all : k - 0 ≡ k = omega arith in ap (λ (j : ℕ). replicate (312 * j) 0) all
 
+-- zeros over all of it
+pub emptied : (k : ℕ) (b : List ℕ) → length b ≡ 312 * k → overlay b 0 (replicate (312 * k) 0) ≡ tableBytes k []
+emptied k b size = overlay-to-end b 0 (replicate (312 * k) 0) (omega (arith, length-replicate {A = ℕ} (312 * k) 0)) ∙ sym (table-none k)
+
 pub table-more : (k : ℕ) (e : TableEntry) (t : List TableEntry) → tableBytes (suc k) (e ∷ t) ≡ slotBytes e ++ tableBytes k t
 unfolding tableBytes usedSlots
 table-more k e t =

@@ -15,3 +15,10 @@ pub enum Holding {
     ByThis,
     ByAnother,
 }
+
+// The type of a record that a slot holds.
+pub enum Rtype {
+    A,
+    Aaaa,
+    Dhcid,
+}

@@ -1,6 +1,7 @@
 // One slot of the table: the name's wire length, the name in 255 bytes, flags, A, AAAA, DHCID. What is absent is zeros.
 use crate::Family;
 use crate::Holding;
+use crate::Rtype;
 use crate::field::is_set;
 use crate::field::is_zero;
 use crate::field::is_zero_unless_set;
@@ -15,12 +16,13 @@ use name::wire::matches;
 use name::wire::put_canonical;
 ghost use mathlib.Core.Path.{_≡_};
 ghost use Prim.Native.Nat.{_+_, _≤_};
-ghost use lib.ListN.{length, take, drop, getD, replicate};
+ghost use lib.ListN.{length, take, getD, replicate};
 ghost use Rattle.base.specs.Bytes.{eqBytes};
 ghost use Rattle.base.specs.Logic.{Decides};
 ghost use Rattle.name.specs.Name.{canonical};
 ghost use Rattle.slots.specs.Entry.{addressOf, addressSize, other};
-ghost use Rattle.slots.specs.Form.{IsSlot, slotBytes};
+ghost use Rattle.slots.specs.Fields.{bare, inField, there, withField, fieldAt, fieldSize, fieldBit};
+ghost use Rattle.slots.specs.Form.{IsSlot, slotBytes, field};
 ghost use Rattle.slots.specs.Effect as effect;
 ghost use Rattle.slots.specs.SlotTests as tests;
 ghost use Rattle.slots.specs.Promise.{OfSlot, bitOf, offsetOf, fieldPut, fieldCleared, holding, isAddress};
@@ -37,6 +39,8 @@ const A: usize = 257;
 const AAAA: usize = 261;
 
 const DHCID: usize = 277;
+
+const DHCID_SIZE: usize = 35;
 
 // The flags of the three.
 const HAS_A: u8 = 1;
@@ -126,6 +130,32 @@ pub fn has_address(slot: &[u8], family: Family, address: &[u8]) -> bool
     same(&slot[at..end], address)
 }
 
+// Has the slot a record of this type?
+pub fn has(slot: &[u8], rtype: Rtype) -> bool
+    requires { ⌜ IsSlot (now slot) ⌝ }
+    ensures { λ r. ⌜ OfSlot (now (slot .entry)) (λ e. r ≡ there (inField rtype e)) ⌝ }
+{
+    is_set(field_bit(rtype), slot[FLAGS])
+}
+
+// The name in a used slot.
+pub fn name_of(slot: &[u8]) -> &[u8]
+    requires { ⌜ IsSlot (now slot) ⌝ }
+    ensures { λ r. ⌜ OfSlot (now (slot .entry)) (λ e. now r ≡ e .name) ⌝ }
+{
+    let end = NAME + slot[0] as usize;
+    &slot[NAME..end]
+}
+
+// 35 bytes from the first of a record's data on: all of a DHCID's, and of an address its own with what stands behind it.
+pub fn data_from(slot: &[u8], rtype: Rtype) -> &[u8]
+    requires { ⌜ IsSlot (now slot) ⌝ }
+    ensures { λ r. ⌜ OfSlot (now (slot .entry)) (λ e. (length (now r) ≡ 35) × (take (fieldSize rtype) (now r) ≡ field (fieldSize rtype) (inField rtype e))) ⌝ }
+{
+    let at = field_offset(rtype);
+    &slot[at..at + DHCID_SIZE]
+}
+
 // Writes a new name, its client and that client's address into an unused slot.
 pub fn enter(slot: &mut [u8], name: &[u8], dhcid: &[u8], family: Family, address: &[u8])
     requires { ⌜ (now slot ≡ replicate 312 0) × (length (now name) ≤ 255) × (length (now dhcid) ≡ 35) × (length (now address) ≡ addressSize family) ⌝ }
@@ -161,6 +191,32 @@ pub fn delete(slot: &mut [u8], family: Family)
     ensures { λ _. ⌜ OfSlot (now (slot .entry)) (λ e. now (slot .exit) ≡ slotBytes (effect.deleted family e)) ⌝ }
 {
     clear_address(slot, family);
+}
+
+// Writes a record's data and sets its flag.
+pub fn put_record(slot: &mut [u8], rtype: Rtype, bytes: &[u8])
+    requires { ⌜ (IsSlot (now slot)) × (length (now bytes) ≡ fieldSize rtype) ⌝ }
+    ensures { λ _. ⌜ OfSlot (now (slot .entry)) (λ e. now (slot .exit) ≡ slotBytes (withField rtype (now (bytes .entry)) e)) ⌝ }
+{
+    put_data(slot, rtype, bytes);
+}
+
+// Writes a new name and one record into an unused slot.
+pub fn enter_record(slot: &mut [u8], name: &[u8], rtype: Rtype, bytes: &[u8])
+    requires { ⌜ (now slot ≡ replicate 312 0) × (length (now name) ≤ 255) × (length (now bytes) ≡ fieldSize rtype) ⌝ }
+    ensures { λ _. ⌜ now (slot .exit) ≡ slotBytes (withField rtype (now (bytes .entry)) (bare (canonical (now (name .entry))))) ⌝ }
+{
+    slot[0] = name.len() as u8;
+    put_canonical(slot, NAME, name);
+    put_data(slot, rtype, bytes);
+}
+
+// Writes the data of a record of this type and sets its flag, in a slot that may have no flag yet.
+fn put_data(slot: &mut [u8], rtype: Rtype, bytes: &[u8])
+    requires { ⌜ (length (now slot) ≡ 312) × (getD (now slot) 256 0 ≤ 7) × (length (now bytes) ≡ fieldSize rtype) ⌝ }
+    ensures { λ _. ⌜ now (slot .exit) ≡ fieldPut (now (slot .entry)) (fieldBit rtype) (fieldAt rtype) (now (bytes .entry)) ⌝ }
+{
+    put_field(slot, field_bit(rtype), field_offset(rtype), bytes);
 }
 
 // Writes an address of this family and sets its flag.
@@ -234,5 +290,27 @@ fn other(family: Family) -> Family
     match family {
         Family::V4 => Family::V6,
         Family::V6 => Family::V4,
+    }
+}
+
+// A type's flag.
+fn field_bit(rtype: Rtype) -> u8
+    ensures { λ r. ⌜ r ≡ fieldBit rtype ⌝ }
+{
+    match rtype {
+        Rtype::A => HAS_A,
+        Rtype::Aaaa => HAS_AAAA,
+        Rtype::Dhcid => HAS_DHCID,
+    }
+}
+
+// Where a type's data stand.
+fn field_offset(rtype: Rtype) -> usize
+    ensures { λ r. ⌜ r ≡ fieldAt rtype ⌝ }
+{
+    match rtype {
+        Rtype::A => A,
+        Rtype::Aaaa => AAAA,
+        Rtype::Dhcid => DHCID,
     }
 }

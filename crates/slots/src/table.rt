@@ -5,13 +5,14 @@ use crate::slot;
 use crate::slot::is_slot;
 use name::wire::matches;
 ghost use mathlib.Core.Path.{_≡_};
+ghost use mathlib.Core.List.{[]};
 ghost use Prim.Native.Nat.{_+_, _≤_, _<_};
 ghost use lib.ListN.{length, drop};
 ghost use Rattle.base.specs.Bytes.{overlay};
 ghost use Rattle.base.specs.Logic.{Decides};
 ghost use Rattle.name.specs.Name.{canonical};
 ghost use Rattle.slots.specs.Entry.{names, position, Distinct};
-ghost use Rattle.slots.specs.Form.{Sound};
+ghost use Rattle.slots.specs.Form.{Sound, tableBytes};
 ghost use Rattle.slots.specs.Promise.{Entries, OfTable, nameAt, closedUp};
 
 // How many slots there are, and their bytes.
@@ -123,4 +124,12 @@ pub fn close_up(table: &mut [u8], at: usize)
     move_up(table, at);
     let last = table.len() - slot::SIZE;
     put_zeros(table, last, slot::SIZE);
+}
+
+// Makes the table empty.
+pub fn make_empty(table: &mut [u8])
+    requires { ⌜ length (now table) ≡ 19968 ⌝ }
+    ensures { λ _. ⌜ now (table .exit) ≡ tableBytes 64 [] ⌝ }
+{
+    put_zeros(table, 0, SIZE);
 }

@@ -1,5 +1,4 @@
 // What is tested before a step, in document 01's order.
-use base::Answer;
 use base::dhcid::is_well_formed;
 use base::refusal::ADDRESS_LENGTH;
 use base::refusal::NO_PROPER_NAME;
@@ -13,7 +12,6 @@ use slots::table::is_sound;
 ghost use mathlib.Core.Bool.{true};
 ghost use mathlib.Core.Path.{_≡_};
 ghost use Rattle.base.specs.Logic.{Decides};
-ghost use Rattle.base.specs.declared.Answer.the-variants.{Refused};
 ghost use Rattle.slots.specs.Entry.{familyOf};
 ghost use Rattle.table.specs.Calls as calls;
 
@@ -52,15 +50,6 @@ pub(crate) fn family_of(family: u32) -> Family
         return Family::V4;
     }
     Family::V6
-}
-
-pub(crate) fn refused(number: u32) -> Answer
-    ensures { λ r. ⌜ r ≡ Refused number 0 ⌝ }
-{
-    Answer::Refused {
-        number: number,
-        offset: 0,
-    }
 }
 
 // The first fault of a table and a name: 40, 9; 0 where there is none.

@@ -8,7 +8,6 @@ use arguments::family_of;
 use arguments::is_family;
 use arguments::is_policy;
 use arguments::name_fault;
-use arguments::refused;
 use base::Answer;
 ghost use Rattle.table.specs.Calls as calls;
 
@@ -27,7 +26,7 @@ pub fn add(
     let known = is_family(family) & is_policy(policy);
     let fault = argument_fault(known, table, name, dhcid, family, address);
     if fault != 0 {
-        return refused(fault);
+        return Answer::refused(fault);
     }
     step::add(table, name, dhcid, family_of(family), address, policy)
 }
@@ -38,7 +37,7 @@ pub fn remove(table: &mut [u8], name: &[u8], dhcid: &[u8], family: u32, address:
 {
     let fault = argument_fault(is_family(family), table, name, dhcid, family, address);
     if fault != 0 {
-        return refused(fault);
+        return Answer::refused(fault);
     }
     step::remove(table, name, dhcid, family_of(family), address)
 }
@@ -49,7 +48,7 @@ pub fn clear(table: &mut [u8], name: &[u8]) -> Answer
 {
     let fault = name_fault(table, name);
     if fault != 0 {
-        return refused(fault);
+        return Answer::refused(fault);
     }
     step::clear(table, name)
 }

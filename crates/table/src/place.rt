@@ -17,7 +17,7 @@ pub enum Place {
     Full,
 }
 
-pub(crate) fn place_of(table: &[u8], name: &[u8]) -> Place
+pub fn place_of(table: &[u8], name: &[u8]) -> Place
     requires { ⌜ Sound 64 (now table) ⌝ }
     ensures { λ r. ⌜ OfTable 64 (now (table .entry)) (λ t. r ≡ placeOf 64 (canonical (now (name .entry))) t) ⌝ }
 {

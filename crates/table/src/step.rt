@@ -1,6 +1,5 @@
 // The three steps on a sound table, with sound arguments.
 use crate::arguments::FIRST_WINS;
-use crate::arguments::refused;
 use crate::place::Place;
 use crate::place::place_of;
 use base::Answer;
@@ -35,14 +34,14 @@ fn add_held(slot: &mut [u8], dhcid: &[u8], family: Family, address: &[u8], polic
 {
     let holder = slot::holding(slot, dhcid);
     match holder {
-        Holding::ByHand => refused(KEPT_BY_HAND),
+        Holding::ByHand => Answer::refused(KEPT_BY_HAND),
         Holding::ByThis => {
             slot::refresh(slot, family, address);
             Answer::Accepted(1)
         }
         Holding::ByAnother => {
             if policy == FIRST_WINS {
-                return refused(HELD_BY_ANOTHER);
+                return Answer::refused(HELD_BY_ANOTHER);
             }
             slot::take_over(slot, dhcid, family, address);
             Answer::Accepted(2)
@@ -57,15 +56,15 @@ fn remove_held(slot: &mut [u8], dhcid: &[u8], family: Family, address: &[u8]) ->
 {
     let holder = slot::holding(slot, dhcid);
     match holder {
-        Holding::ByHand => refused(KEPT_BY_HAND),
+        Holding::ByHand => Answer::refused(KEPT_BY_HAND),
         Holding::ByThis => {
             if !slot::has_address(slot, family, address) {
-                return refused(ADDRESS_DIFFERS);
+                return Answer::refused(ADDRESS_DIFFERS);
             }
             slot::delete(slot, family);
             Answer::Accepted(0)
         }
-        Holding::ByAnother => refused(HELD_BY_ANOTHER),
+        Holding::ByAnother => Answer::refused(HELD_BY_ANOTHER),
     }
 }
 
@@ -122,7 +121,7 @@ pub(crate) fn add(
             enter_at(table, at, name, dhcid, family, address);
             Answer::Accepted(0)
         }
-        Place::Full => refused(TABLE_FULL),
+        Place::Full => Answer::refused(TABLE_FULL),
     }
 }
 
@@ -140,8 +139,8 @@ pub(crate) fn remove(
     let place = place_of(table, name);
     match place {
         Place::Held(at) => remove_at(table, at, dhcid, family, address),
-        Place::Free(_) => refused(NAME_NOT_HELD),
-        Place::Full => refused(NAME_NOT_HELD),
+        Place::Free(_) => Answer::refused(NAME_NOT_HELD),
+        Place::Full => Answer::refused(NAME_NOT_HELD),
     }
 }
 
@@ -156,7 +155,7 @@ pub(crate) fn clear(table: &mut [u8], name: &[u8]) -> Answer
             close_up(table, at);
             Answer::Accepted(0)
         }
-        Place::Free(_) => refused(NAME_NOT_HELD),
-        Place::Full => refused(NAME_NOT_HELD),
+        Place::Free(_) => Answer::refused(NAME_NOT_HELD),
+        Place::Full => Answer::refused(NAME_NOT_HELD),
     }
 }

@@ -1,4 +1,5 @@
 pub mod PartLaws
+pub mod LineLaws
 pub mod PlaceLaws
 pub mod RoomLaws
 pub mod WellFormedLaws

@@ -55,7 +55,7 @@ unfolding total
 octets-total [] = omega arith
 octets-total (b ∷ bs) = omega (arith, octets-total bs, length-decimal 3 b)
 
-length-a : (bs : List ℕ) → length bs ≡ 4 → length (writtenA bs) ≤ 15
+pub length-a : (bs : List ℕ) → length bs ≡ 4 → length (writtenA bs) ≤ 15
 unfolding writtenA
 length-a bs four = omega (arith, octets-total bs, total-separated 46 (octetParts bs) (omega (arith, length-octets bs)))
 
@@ -101,6 +101,9 @@ module _ (n : ℕ) (bs : List ℕ) where
   pub length-rest : length (restPart n bs) ≡ length (typePart n) + length (rdataPart n bs) + 1
   unfolding restPart
   length-rest = length-append (typePart n ++ rdataPart n bs) (10 ∷ []) ∙ ap (λ (k : ℕ). k + 1) (length-append (typePart n) (rdataPart n bs))
+
+  pub rest-most : length bs ≡ 35 → length (restPart n bs) ≤ 56
+  rest-most long = omega (arith, length-rest, length-type n, length-rdata n bs long)
 
   pub rest-written : (to t u : List ℕ) (at middle end : ℕ) → at ≤ length to → t ≡ overlay to at (typePart n) → middle ≡ at + length (typePart n)
       → u ≡ overlay t middle (rdataPart n bs) → end ≡ middle + length (rdataPart n bs) → end < length u → set u end 10 ≡ overlay to at (restPart n bs)

@@ -10,7 +10,7 @@ use borrow.Author.Tests.{ltb-true}
 use Rattle.base.specs.Ascii.{isIn}
 use Rattle.base.specs.Bytes.{ascii}
 use Rattle.base.specs.Logic.{Every}
-use Rattle.base.proofs.Lists.{every-append, every-map}
+use Rattle.base.proofs.Lists.{every-append, every-map, every-by}
 use Rattle.base.proofs.Tests.{and-left, below, at-each}
 use Rattle.name.specs.Label.{isUpper, isLower, isDigit, isLabelByte, Label}
 use Rattle.name.specs.Name.{text, Proper}
@@ -35,10 +35,6 @@ WordBytes w = Every (λ b. isWordByte b ≡ true) w
 pub record Word (w : List ℕ) : Type 0 where
   pub some : 1 ≤ length w
   pub each : Every (λ b. isWordByte b ≡ true) w
-
-every-by : {P Q : ℕ → Type 0} → ((b : ℕ) → P b → Q b) → {l : List ℕ} → Every P l → Every Q l
-every-by g Every.none = Every.none
-every-by g (Every.more {a} h hs) = Every.more (g a h) (every-by g hs)
 
 -- ---- bytes, by computing
 

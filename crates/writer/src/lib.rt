@@ -53,13 +53,22 @@ fn data_length(rtype: u8, rdata: &[u8]) -> usize
     }
 }
 
+// How many bytes follow the owner.
+pub fn rest_length(rtype: u8, rdata: &[u8]) -> usize
+    requires { ⌜ length (now rdata) ≡ 35 ⌝ }
+    ensures { λ n. ⌜ n ≡ length (parts.restPart rtype (now (rdata .entry))) ⌝ }
+{
+    // byte 10 is one more
+    type_length(rtype) + data_length(rtype, rdata) + 1
+}
+
 // How many bytes the line of a record has.
 pub fn line_length(place: Record) -> usize
     requires { ⌜ spec.Writable place ⌝ }
     ensures { λ n. ⌜ ((r : ResourceRecord) → spec.Holds place r → n ≡ length (spec.line r)) ⌝ }
 {
-    // a name has one byte less in text, and the line's byte 10 is one more
-    place.owner_len as usize + type_length(place.rtype) + data_length(place.rtype, &place.rdata)
+    // a name has one byte less in text
+    place.owner_len as usize - 1 + rest_length(place.rtype, &place.rdata)
 }
 
 // Writes blank, type and blank.
@@ -95,7 +104,7 @@ fn put_data(to: &mut [u8], at: usize, rtype: u8, rdata: &[u8]) -> usize
 }
 
 // Writes what follows the owner: type, data and byte 10.
-fn put_rest(to: &mut [u8], at: usize, rtype: u8, rdata: &[u8])
+pub fn put_rest(to: &mut [u8], at: usize, rtype: u8, rdata: &[u8])
     requires { ⌜ length (now rdata) ≡ 35 ⌝ }
     requires { ⌜ at + length (parts.restPart rtype (now rdata)) ≤ length (now to) ⌝ }
     ensures { λ _. ⌜ now (to .exit) ≡ overlay (now (to .entry)) at (parts.restPart rtype (now (rdata .entry))) ⌝ }

@@ -1,0 +1,38 @@
+use native.Mathlib.Omega.{arith}
+use lib.ListN.{length-take}
+use borrow.Author.Needs.{needs}
+use Rattle.loads.proofs.write_into.Statement.{statement}
+use Rattle.loads.proofs.write_into.Tie as tie
+
+returns : tie.Need-returns
+returns c = search needs
+
+slice-relend-prefix-write : tie.Need-slice-relend-prefix-write
+slice-relend-prefix-write c = search needs
+
+slice-aggregate-write : tie.Need-slice-aggregate-write
+slice-aggregate-write c = simp length-take (omega arith)
+
+write-requires : tie.Need-write-requires
+write-requires c κs = search needs
+
+show-answer-requires : tie.Need-show-answer-requires
+show-answer-requires c κs = search needs
+
+same-length : tie.Need-same-length
+same-length c = search needs
+
+returns-2 : tie.Need-returns-2
+returns-2 c = search needs
+
+pub write-into-spec : {M : Type 1} → statement M
+write-into-spec =
+    tie.close
+    (tie.spec
+    returns
+    slice-relend-prefix-write
+    slice-aggregate-write
+    write-requires
+    show-answer-requires
+    same-length
+    returns-2)

@@ -1,0 +1,14 @@
+pub mod AreaLaws
+pub mod DataLaws
+pub mod OwnerLaws
+pub mod MappedLaws
+pub mod StoredLaws
+pub mod SoundLaws
+pub mod EntryRecordLaws
+pub mod RoundLaws
+pub mod SameLaws
+pub mod WrittenLaws
+pub mod WritingLaws
+pub mod LoadingLaws
+pub mod TripLaws
+pub mod Theorems

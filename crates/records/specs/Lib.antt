@@ -1,0 +1,4 @@
+pub mod Written
+pub mod Gathered
+pub mod Calls
+pub mod Promise

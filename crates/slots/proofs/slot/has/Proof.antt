@@ -1,0 +1,26 @@
+use Prim.Native.Nat.{ℕ}
+use mathlib.Core.Path.{ap, _∙_}
+use denote.Ref.{now}
+use native.Mathlib.Omega.{arith}
+use lib.ListN.{getD}
+use Rattle.slots.specs.Promise.{isSet}
+use Rattle.slots.proofs.EffectLaws.{slot-of, of-slot, long, field-bit-some, field-flag}
+use borrow.Author.Needs.{needs}
+use Rattle.slots.proofs.slot.has.Statement.{statement}
+use Rattle.slots.proofs.slot.has.Tie as tie
+
+field-bit-requires : tie.Need-field-bit-requires
+field-bit-requires c κs = search needs
+
+shared-slice-read-is-set : tie.Need-shared-slice-read-is-set
+shared-slice-read-is-set c = omega (arith, long (of-slot (now (c .before .before .before .args .slot)) (c .before .before .before .pre)))
+
+is-set-requires : tie.Need-is-set-requires
+is-set-requires c κs = omega (arith, field-bit-some (c .before .before .before .args .rtype))
+
+returns : tie.Need-returns
+returns c =
+    λ e w form. c .is-set .ensures ∙ ap (λ (k : ℕ). isSet k (getD (now (c .before .before .before .before .args .slot)) 256 0)) (c .before .before .field-bit .ensures) ∙ field-flag (slot-of w form) (c .before .before .before .before .args .rtype)
+
+pub has-spec : {M : Type 1} → statement M
+has-spec = tie.close (tie.spec field-bit-requires shared-slice-read-is-set is-set-requires returns)

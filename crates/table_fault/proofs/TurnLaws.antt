@@ -1,0 +1,298 @@
+-- One record more in a sweep: its name is kept already, is kept now, or cannot be. Assumes nothing.
+use Prim.Native.Nat.{ℕ, _+_, _/_, _%_, _≤_, _<_}
+use mathlib.Core.Bool.{Bool, true, false, true≢false}
+use mathlib.Core.Path.{_≡_, refl, sym, ap, subst, _∙_}
+use mathlib.Core.Logic.{⊎-elim}
+use mathlib.Core.List.{List, [], _∷_, _++_, append-assoc, append-nil}
+use native.Mathlib.Nat.{zero-add, eq-or-lt-of-le}
+use native.Mathlib.Omega.{arith}
+use lib.Dec.{eqb}
+use lib.ListN.{length, getD, set, length-set, length-append, List·getD-append}
+use lib.Seq.{getD-set-same, getD-set-other, getD-at, append-snoc}
+use borrow.Author.Tests.{eqb-true, eqb-false}
+use Rattle.grammar.specs.Listing.{RecordType, ResourceRecord}
+use Rattle.entry.specs.Parts.{number}
+use Rattle.listing.specs.Giving.{end, Gives}
+use Rattle.records.specs.Gathered.{dataOf, owners}
+use Rattle.records.proofs.OwnerLaws.{by-name, among, owners-known, owners-new, owners-distinct, no-data}
+use Rattle.table_fault.specs.Sweeping.{mark, typeBit, KeptName, Kept}
+use Rattle.table_fault.specs.declared.Seen.{Seen}
+use Rattle.table_fault.proofs.IndexLaws.{at-among, distinct-at}
+use Rattle.table_fault.proofs.TypeLaws.{Flagged, flagged-none, flagged-more, flagged-other}
+use Rattle.table_fault.proofs.SweepLaws.{Met, index-known, index-new, Left, all-kept, some-left, Swept}
+
+-- no flag is set in 0
+unset : (k : RecordType) → 0 / typeBit (number k) % 2 ≡ 1 → ⊥
+unset RecordType.A e = omega arith
+unset RecordType.AAAA e = omega arith
+unset RecordType.DHCID e = omega arith
+
+-- one more seen
+moved-on : (a b : List ResourceRecord) (r : ResourceRecord) (l ahead : List ResourceRecord) → a ≡ b ++ ahead → ahead ≡ r ∷ l → a ≡ b ++ r ∷ [] ++ l
+moved-on a b r l ahead e o = e ∙ ap (λ (x : List ResourceRecord). b ++ x) o ∙ sym (append-snoc b r l)
+
+module _ (t : List ℕ) (from : ℕ) {rs : List ResourceRecord} {starts marks types : List ℕ} {used rest at : ℕ} (w : Swept t from rs starts marks types used rest at)
+    (s : Seen) (m : Met t at (owners (w .before)) (w .ahead) s) where
+  abbrev r : ResourceRecord
+  r = m .head
+
+  abbrev ns : List (List ℕ)
+  ns = owners (w .before)
+
+  abbrev seen′ : List ResourceRecord
+  seen′ = w .seen ++ r ∷ []
+
+  order′ : rs ≡ seen′ ++ m .later
+  order′ = moved-on rs (w .seen) r (m .later) (w .ahead) (w .order) (m .order)
+
+  -- the record goes behind those that are left
+  parts-left : seen′ ≡ w .before ++ (w .after ++ r ∷ [])
+  parts-left = ap (λ (l : List ResourceRecord). l ++ r ∷ []) (w .parts) ∙ append-assoc (w .before) (w .after) (r ∷ [])
+
+  later-left : (rest : ℕ) → Gives t rest (w .after ++ w .ahead) end → Gives t rest (w .after ++ r ∷ [] ++ m .later) end
+  later-left rest g = subst (λ (l : List ResourceRecord). Gives t rest l end) (moved-on (w .after ++ w .ahead) (w .after) r (m .later) (w .ahead) refl (m .order)) g
+
+  -- or behind those whose names are kept
+  parts-kept : w .after ≡ [] → seen′ ≡ w .before ++ r ∷ [] ++ []
+  parts-kept none =
+      ap (λ (l : List ResourceRecord). l ++ r ∷ []) (w .parts ∙ ap (λ (l : List ResourceRecord). w .before ++ l) none ∙ append-nil (w .before)) ∙ sym (append-nil (w .before ++ r ∷ []))
+
+  gives-here : Gives t at (r ∷ m .later) end
+  gives-here = subst (λ (l : List ResourceRecord). Gives t at l end) (m .order) (w .gives)
+
+  -- ---- the name is kept already, and has no record of that type
+
+  module _ (lt : s .index < used) (free : getD types (s .index) 0 / s .bit % 2 ≡ 1 → ⊥) where
+    abbrev i : ℕ
+    i = s .index
+
+    abbrev types′ : List ℕ
+    types′ = set types i (getD types i 0 + s .bit)
+
+    own : getD ns i [] ≡ r .owner
+    own = index-known ns (r .owner) i (m .there) (omega (arith, w .long))
+
+    known : among (r .owner) ns ≡ true
+    known = at-among (r .owner) ns i (omega (arith, w .long)) own
+
+    flags-own : Flagged (getD ns i []) seen′ (getD types′ i 0)
+    flags-own =
+        let f = flagged-more (getD ns i []) (w .seen) r (sym own) (w .flags i lt) (λ e. free (ap (λ (b : ℕ). getD types i 0 / b % 2) (m .bit) ∙ e)) in
+        let v : getD types i 0 + typeBit (number (r .rtype)) ≡ getD types′ i 0 =
+        sym (getD-set-same types i (getD types i 0 + s .bit) 0 (omega (arith, w .room, w .types-size)) ∙ ap (λ (b : ℕ). getD types i 0 + b) (m .bit)) in
+        subst (Flagged (getD ns i []) seen′) v f
+
+    flags-else : (j : ℕ) → j < used → (j ≡ i → ⊥) → Flagged (getD ns j []) seen′ (getD types′ j 0)
+    flags-else j lj d =
+        let other : r .owner ≡ getD ns j [] → ⊥ = λ e. d (sym (distinct-at ns (owners-distinct (w .before)) i j (omega (arith, w .long)) (omega (arith, w .long)) (own ∙ e))) in
+        subst (Flagged (getD ns j []) seen′) (sym (getD-set-other types i j (getD types i 0 + s .bit) 0 d)) (flagged-other (getD ns j []) (w .seen) r other (w .flags j lj))
+
+    flags-known : (j : ℕ) → j < used → Flagged (getD ns j []) seen′ (getD types′ j 0)
+    flags-known j lj = go (eqb j i) refl
+      where
+        go : (b : Bool) → eqb j i ≡ b → Flagged (getD ns j []) seen′ (getD types′ j 0)
+        go true e = subst (λ (k : ℕ). Flagged (getD ns k []) seen′ (getD types′ k 0)) (sym (eqb-true j i e)) flags-own
+        go false e = flags-else j lj (eqb-false j i e)
+
+    known-by : Left t from (w .before) (w .after) (w .ahead) used rest → Swept t from rs starts marks types′ used rest (s .next)
+    known-by (all-kept e none) =
+        let same = owners-known (w .before) r known in
+        record {
+          seen = seen′;
+          ahead = m .later;
+          before = w .before ++ r ∷ [];
+          after = [];
+          order = order′;
+          parts = parts-kept none;
+          gives = m .gives;
+          kept = subst (Kept t starts marks) (sym same) (w .kept);
+          long = w .long ∙ ap length (sym same);
+          room = w .room;
+          flags = λ j lj. subst (λ (l : List (List ℕ)). Flagged (getD l j []) seen′ (getD types′ j 0)) (sym same) (flags-known j lj);
+          on = omega (arith, w .on, m .on);
+          moved = λ some. omega (arith, w .on, m .on);
+          left = all-kept e refl;
+          starts-size = w .starts-size;
+          marks-size = w .marks-size;
+          types-size = length-set types i (getD types i 0 + s .bit) ∙ w .types-size;
+        }
+    known-by (some-left q qs e new full g on within) =
+        record {
+          seen = seen′;
+          ahead = m .later;
+          before = w .before;
+          after = w .after ++ r ∷ [];
+          order = order′;
+          parts = parts-left;
+          gives = m .gives;
+          kept = w .kept;
+          long = w .long;
+          room = w .room;
+          flags = flags-known;
+          on = omega (arith, w .on, m .on);
+          moved = λ some. omega (arith, w .on, m .on);
+          left = some-left q (qs ++ r ∷ []) (ap (λ (l : List ResourceRecord). l ++ r ∷ []) e) new full (later-left rest g) on within;
+          starts-size = w .starts-size;
+          marks-size = w .marks-size;
+          types-size = length-set types i (getD types i 0 + s .bit) ∙ w .types-size;
+        }
+
+    pub swept-known : Swept t from rs starts marks types′ used rest (s .next)
+    swept-known = known-by (w .left)
+
+  -- ---- the name is new
+
+  module _ (le : used ≤ s .index) where
+    new-there : (s .index ≡ length ns) × (among (r .owner) ns ≡ false)
+    new-there = index-new ns (r .owner) (s .index) (m .there) (omega (arith, w .long))
+
+    other-name : (j : ℕ) → j < used → r .owner ≡ getD ns j [] → ⊥
+    other-name j lj e = true≢false (sym (at-among (r .owner) ns j (omega (arith, w .long)) (sym e)) ∙ new-there .1)
+
+    flags-new : (j : ℕ) → j < used → Flagged (getD ns j []) seen′ (getD types j 0)
+    flags-new j lj = flagged-other (getD ns j []) (w .seen) r (other-name j lj) (w .flags j lj)
+
+    -- and there is no room for it: it is the first of those, or one of them
+    module _ (full : 64 ≤ s .index) (within : at < length t) where
+      is-full : 64 ≤ used
+      is-full = omega (arith, w .long, new-there .0)
+
+      pub swept-beyond : rest ≡ length t → Swept t from rs starts marks types used at (s .next)
+      swept-beyond e = go (w .left)
+        where
+          go : Left t from (w .before) (w .after) (w .ahead) used rest → Swept t from rs starts marks types used at (s .next)
+          go (some-left q qs a new f g on inside) = absurd (omega arith)
+          go (all-kept a none) =
+              record {
+                seen = seen′;
+                ahead = m .later;
+                before = w .before;
+                after = r ∷ [];
+                order = order′;
+                parts = parts-left ∙ ap (λ (l : List ResourceRecord). w .before ++ (l ++ r ∷ [])) none;
+                gives = m .gives;
+                kept = w .kept;
+                long = w .long;
+                room = w .room;
+                flags = flags-new;
+                on = omega (arith, w .on, m .on);
+                moved = λ some. omega (arith, w .on, m .on);
+                left = some-left r [] refl (new-there .1) is-full gives-here (w .moved (omega (arith, is-full))) within;
+                starts-size = w .starts-size;
+                marks-size = w .marks-size;
+                types-size = w .types-size;
+              }
+
+      pub swept-past : (rest ≡ length t → ⊥) → Swept t from rs starts marks types used rest (s .next)
+      swept-past d = go (w .left)
+        where
+          go : Left t from (w .before) (w .after) (w .ahead) used rest → Swept t from rs starts marks types used rest (s .next)
+          go (all-kept a none) = absurd (d a)
+          go (some-left q qs a new f g on inside) =
+              record {
+                seen = seen′;
+                ahead = m .later;
+                before = w .before;
+                after = w .after ++ r ∷ [];
+                order = order′;
+                parts = parts-left;
+                gives = m .gives;
+                kept = w .kept;
+                long = w .long;
+                room = w .room;
+                flags = flags-new;
+                on = omega (arith, w .on, m .on);
+                moved = λ some. omega (arith, w .on, m .on);
+                left = some-left q (qs ++ r ∷ []) (ap (λ (l : List ResourceRecord). l ++ r ∷ []) a) new f (later-left rest g) on inside;
+                starts-size = w .starts-size;
+                marks-size = w .marks-size;
+                types-size = w .types-size;
+              }
+
+    -- or there is, and it is kept
+    module _ (free : s .index < 64) where
+      abbrev starts″ : List ℕ
+      starts″ = set starts (s .index) at
+
+      abbrev marks″ : List ℕ
+      marks″ = set marks (s .index) (s .mark)
+
+      abbrev types″ : List ℕ
+      types″ = set types (s .index) (s .bit)
+
+      index-is : s .index ≡ used
+      index-is = omega (arith, w .long, new-there .0)
+
+      none-left : Left t from (w .before) (w .after) (w .ahead) used rest → (rest ≡ length t) × (w .after ≡ [])
+      none-left (all-kept a none) = (a, none)
+      none-left (some-left q qs a new f g on inside) = absurd (omega (arith, index-is))
+
+      now-named : owners (w .before ++ r ∷ []) ≡ ns ++ r .owner ∷ []
+      now-named = owners-new (w .before) r (new-there .1)
+
+      -- at each index, the name that was there, or the new one
+      at-old : (j : ℕ) → j < used → getD (ns ++ r .owner ∷ []) j [] ≡ getD ns j []
+      at-old j lj = List·getD-append ns (r .owner ∷ []) [] j (omega (arith, w .long))
+
+      at-new : getD (ns ++ r .owner ∷ []) (s .index) [] ≡ r .owner
+      at-new = getD-at ns (r .owner) [] [] (s .index) (sym (new-there .0))
+
+      apart : (j : ℕ) → j < used → j ≡ s .index → ⊥
+      apart j lj e = omega (arith, index-is)
+
+      kept-old : (j : ℕ) → j < used → KeptName t (getD starts″ j 0) (getD marks″ j 0) (getD (ns ++ r .owner ∷ []) j [])
+      unfolding Kept
+      kept-old j lj =
+          let k = w .kept j (omega (arith, w .long)) in
+          let a = getD-set-other starts (s .index) j at 0 (apart j lj) in
+          let b = getD-set-other marks (s .index) j (s .mark) 0 (apart j lj) in
+          record { first = k .first; later = k .later; gives = subst (λ (x : ℕ). Gives t x (k .first ∷ k .later) end) (sym a) (k .gives); name = k .name ∙ sym (at-old j lj); marked = b ∙ k .marked ∙ ap mark (sym (at-old j lj)) }
+
+      kept-new : KeptName t (getD starts″ (s .index) 0) (getD marks″ (s .index) 0) (getD (ns ++ r .owner ∷ []) (s .index) [])
+      kept-new =
+          let a = getD-set-same starts (s .index) at 0 (omega (arith, w .starts-size)) in
+          let b = getD-set-same marks (s .index) (s .mark) 0 (omega (arith, w .marks-size)) in
+          record { first = r; later = m .later; gives = subst (λ (x : ℕ). Gives t x (r ∷ m .later) end) (sym a) gives-here; name = sym at-new; marked = b ∙ m .marked ∙ ap mark (sym at-new) }
+
+      by-index : {P : ℕ → Type 0} → ((j : ℕ) → j < used → P j) → P (s .index) → (j : ℕ) → j < s .index + 1 → P j
+      by-index {P} old new j lj =
+          let low : j ≤ s .index = omega arith in
+          ⊎-elim (λ e. subst P (sym e) new) (λ less. old j (omega (arith, index-is))) (eq-or-lt-of-le low)
+
+      flags-old : (j : ℕ) → j < used → Flagged (getD (ns ++ r .owner ∷ []) j []) seen′ (getD types″ j 0)
+      flags-old j lj =
+          subst (λ (n : List ℕ). Flagged n seen′ (getD types″ j 0)) (sym (at-old j lj))
+          (subst (Flagged (getD ns j []) seen′) (sym (getD-set-other types (s .index) j (s .bit) 0 (apart j lj))) (flags-new j lj))
+
+      flags-first : w .after ≡ [] → Flagged (getD (ns ++ r .owner ∷ []) (s .index) []) seen′ (getD types″ (s .index) 0)
+      flags-first none =
+          let before : w .seen ≡ w .before = w .parts ∙ ap (λ (l : List ResourceRecord). w .before ++ l) none ∙ append-nil (w .before) in
+          let f = flagged-more (r .owner) (w .seen) r refl (flagged-none (r .owner) (w .seen) (λ k. subst (λ (l : List ResourceRecord). dataOf (r .owner) k l ≡ []) (sym before) (no-data (r .owner) k (w .before) (new-there .1)))) (unset (r .rtype)) in
+          let v : 0 + typeBit (number (r .rtype)) ≡ getD types″ (s .index) 0 =
+          zero-add (typeBit (number (r .rtype))) ∙ sym (m .bit) ∙ sym (getD-set-same types (s .index) (s .bit) 0 (omega (arith, w .types-size))) in
+          subst (λ (n : List ℕ). Flagged n seen′ (getD types″ (s .index) 0)) (sym at-new) (subst (Flagged (r .owner) seen′) v f)
+
+      pub swept-new : Swept t from rs starts″ marks″ types″ (s .index + 1) rest (s .next)
+      unfolding Kept
+      swept-new =
+          let none = none-left (w .left) in
+          let long : s .index + 1 ≡ length (owners (w .before ++ r ∷ [])) = omega (arith, index-is, w .long, ap length now-named, length-append ns (r .owner ∷ [])) in
+          record {
+            seen = seen′;
+            ahead = m .later;
+            before = w .before ++ r ∷ [];
+            after = [];
+            order = order′;
+            parts = parts-kept (none .1);
+            gives = m .gives;
+            kept = λ j lj. subst (λ (l : List (List ℕ)). KeptName t (getD starts″ j 0) (getD marks″ j 0) (getD l j [])) (sym now-named) (by-index kept-old kept-new j (omega (arith, long)));
+            long = long;
+            room = omega arith;
+            flags = λ j lj. subst (λ (l : List (List ℕ)). Flagged (getD l j []) seen′ (getD types″ j 0)) (sym now-named) (by-index flags-old (flags-first (none .1)) j lj);
+            on = omega (arith, w .on, m .on);
+            moved = λ some. omega (arith, w .on, m .on);
+            left = all-kept (none .0) refl;
+            starts-size = length-set starts (s .index) at ∙ w .starts-size;
+            marks-size = length-set marks (s .index) (s .mark) ∙ w .marks-size;
+            types-size = length-set types (s .index) (s .bit) ∙ w .types-size;
+          }

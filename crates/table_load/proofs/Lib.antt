@@ -1,0 +1,4 @@
+pub mod FillLaws
+pub mod LoadLaws
+pub mod PlaceLaws
+pub mod WrittenLaws

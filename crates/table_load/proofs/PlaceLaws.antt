@@ -1,0 +1,99 @@
+-- The parts of a place, and what their write comes to. Assumes nothing.
+use Prim.Native.Nat.{ℕ, _-_, _≤_}
+use mathlib.Core.Path.{_≡_, refl, sym, ap, subst, _∙_}
+use mathlib.Core.List.{List}
+use mathlib.Core.Option.{Option, none, some}
+use native.Mathlib.Omega.{arith}
+use lib.ListN.{length, take, replicate}
+use lib.Seq.{take-at}
+use Rattle.base.proofs.DhcidLaws.{dhcid-length}
+use Rattle.name.specs.Name.{canonical}
+use Rattle.name.proofs.WireLaws.{proper-short}
+use Rattle.text.specs.DhcidReading.{zeroFilled}
+use Rattle.grammar.specs.Listing.{RecordType, ResourceRecord}
+use Rattle.entry.specs.Parts.{number}
+use Rattle.entry.specs.EntryIs.{held}
+use Rattle.entry.specs.declared.Record.{Record}
+use Rattle.writer.specs.Line.{RdataOf, Holds}
+use Rattle.writer.proofs.PlaceLaws.{owner-held}
+use Rattle.slots.specs.Fields.{fieldSize}
+use Rattle.slots.specs.Form.{TableEntry}
+use Rattle.slots.specs.declared.Rtype.{Rtype}
+use Rattle.slots.specs.declared.Rtype.the-variants as rtype
+use Rattle.table.specs.Steps.{find}
+use Rattle.records.specs.Promise.{rtypeOf, storedBy, stored}
+use Rattle.table_load.specs.Promise.{numbered, writtenBy, written, Room, Storable}
+
+-- ---- the parts of a place
+
+abbrev pub nameIn : Record → List ℕ
+nameIn p = take (p .«owner_len») (p .owner)
+
+-- the type by the number that stands in a place
+type-numbered : (k : RecordType) → numbered (number k) ≡ rtypeOf k
+type-numbered RecordType.A = refl
+type-numbered RecordType.AAAA = refl
+type-numbered RecordType.DHCID = refl
+
+-- data have as many bytes as their field
+data-size : (k : RecordType) (bs : List ℕ) → RdataOf k bs → length bs ≡ fieldSize (rtypeOf k)
+unfolding RdataOf
+data-size RecordType.A bs e = e
+data-size RecordType.AAAA bs e = e
+data-size RecordType.DHCID bs e = dhcid-length bs e
+
+pub size-fits : (k : Rtype) → fieldSize k ≤ 35
+size-fits rtype.A = omega arith
+size-fits rtype.Aaaa = omega arith
+size-fits rtype.Dhcid = omega arith
+
+data-held : (bs : List ℕ) (n : ℕ) → length bs ≡ n → take n (zeroFilled bs) ≡ bs
+unfolding zeroFilled
+data-held bs n e = take-at bs (replicate (35 - length bs) 0) n e
+
+module _ (p : Record) (r : ResourceRecord) (h : Holds p r) where
+  name-is : nameIn p ≡ r .owner
+  unfolding held
+  name-is = ap nameIn (h .place) ∙ owner-held (r .owner)
+
+  type-is : (k : Rtype) → k ≡ numbered (p .rtype) → k ≡ rtypeOf (r .rtype)
+  unfolding held
+  type-is k e = e ∙ ap (λ (q : Record). numbered (q .rtype)) (h .place) ∙ type-numbered (r .rtype)
+
+  size-is : (k : Rtype) → k ≡ numbered (p .rtype) → length (r .rdata) ≡ fieldSize k
+  size-is k e = data-size (r .rtype) (r .rdata) (h .well-formed .rdata) ∙ sym (ap fieldSize (type-is k e))
+
+  data-is : (k : Rtype) (n : ℕ) → k ≡ numbered (p .rtype) → n ≡ fieldSize k → take n (p .rdata) ≡ r .rdata
+  unfolding held
+  data-is k n e s = ap (λ (q : Record). take n (q .rdata)) (h .place) ∙ data-held (r .rdata) n (size-is k e ∙ sym s)
+
+-- ---- their write
+
+-- what a write of them asks for
+pub record Writable (b : List ℕ) (n : List ℕ) (k : Rtype) (x : List ℕ) : Type 0 where
+  pub low : canonical n ≡ n
+  pub short : length n ≤ 255
+  pub size : length x ≡ fieldSize k
+  pub room : Room b n
+
+pub writable : (b : List ℕ) (p : Record) → Storable b p → (k : Rtype) (n : ℕ) → k ≡ numbered (p .rtype) → n ≡ fieldSize k → Writable b (nameIn p) k (take n (p .rdata))
+unfolding Storable
+writable b p (r, h, room) k n e s =
+    let own = name-is p r h in
+    record {
+      low = ap canonical own ∙ h .well-formed .canonical-owner ∙ sym own;
+      short = omega (arith, ap length own, proper-short (r .owner) (h .well-formed .proper));
+      size = ap length (data-is p r h k n e s) ∙ size-is p r h k e;
+      room = subst (Room b) (sym own) room;
+    }
+
+-- and what it comes to: the record is stored
+stored-by : (o : Option TableEntry) (r : ResourceRecord) (t : List TableEntry) → writtenBy o (r .owner) (rtypeOf (r .rtype)) (r .rdata) t ≡ storedBy o r t
+stored-by none r t = refl
+stored-by (some e) r t = refl
+
+pub written-stored : (p : Record) (r : ResourceRecord) → Holds p r → (k : Rtype) (n : ℕ) → k ≡ numbered (p .rtype) → n ≡ fieldSize k → (t : List TableEntry)
+    → written (nameIn p) k (take n (p .rdata)) t ≡ stored r t
+unfolding written stored
+written-stored p r h k n e s t =
+    (λ i. written (name-is p r h i) (type-is p r h k e i) (data-is p r h k n e s i) t) ∙ stored-by (find (r .owner) t) r t
