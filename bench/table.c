@@ -1,6 +1,8 @@
 /* The nanoseconds of the calls on the table of names, beside the same calls in plain C, in one run: see bench/table.sh.
  *
- * A case is a list of calls that leaves its table as it was, so that it can be timed over and over; every answer is checked. */
+ * A case is a list of calls that leaves its table as it was, so that it can be timed over and over; every answer is checked. What is loaded is the
+ * table's own listing, or one that is refused. */
+#include <stdbool.h>
 #include <stdio.h>
 #include <string.h>
 
@@ -8,11 +10,18 @@
 #include "table_plain.h"
 #include "vichrelka.h"
 
-/* how many calls a round has at least: on a table of one name, and on a full one, where each takes longer */
-enum { ROUNDS = 40, CALLS_ONE = 1024, CALLS_FULL = 32 };
-enum { NAMES = VICHRELKA_TABLE_NAMES, NAME_LIMIT = 255, LABEL_LIMIT = 63, ADDRESS_LIMIT = 16 };
+/* how many calls a round has at least: on a table of one name, on a full one, with a listing, with one of very many names; each takes longer */
+enum { ROUNDS = 40, CALLS_ONE = 1024, CALLS_FULL = 32, CALLS_LISTING = 8, CALLS_CROWD = 1 };
+/* a case that has taken so many seconds has no further round, but some it has in any case */
+enum { ROUNDS_LEAST = 3, SECONDS = 5 };
+enum { NAMES = VICHRELKA_TABLE_NAMES, ADDRESS_LIMIT = 16 };
 
 static const uint64_t HELD_BY_ANOTHER = (uint64_t)VICHRELKA_REFUSED_HELD_BY_ANOTHER << 32;
+static const uint64_t TABLE_FULL = (uint64_t)VICHRELKA_REFUSED_TABLE_FULL << 32;
+
+/* what may stand in a label, in lower case */
+static const char IN_LABEL[] = "abcdefghijklmnopqrstuvwxyz0123456789-_";
+enum { LABEL_BYTES = sizeof IN_LABEL - 1 };
 
 /* a name and who holds it */
 struct entry {
@@ -21,16 +30,22 @@ struct entry {
     uint8_t name[NAME_LIMIT], address[ADDRESS_LIMIT], dhcid[VICHRELKA_DHCID_LEN];
 };
 
+struct listing {
+    size_t len;
+    uint8_t text[VICHRELKA_LISTING_LIMIT];
+};
+
 struct step {
-    enum { ADD, ADD_BY_ANOTHER, REMOVE, CLEAR } call;
+    enum { ADD, ADD_BY_ANOTHER, REMOVE, CLEAR, WRITE, LOAD } call;
     const struct entry *entry;
+    const struct listing *listing;
     uint64_t want;
 };
 
-/* `units` is how many times the list does what the case's line gives the time of */
+/* `units` is how many times the list does what the case's line gives the time of, `calls` how many calls a round has at least */
 struct list {
     const char *kind, *what;
-    int len, units;
+    int len, units, calls;
     struct step steps[2 * NAMES];
 };
 
@@ -62,19 +77,19 @@ static void long_different(char *text, int i)
 /* No more than 38 names can differ in one byte only, so there are two groups, which differ in the byte before it. */
 static void long_alike(char *text, int i)
 {
-    static const char IN_LABEL[] = "abcdefghijklmnopqrstuvwxyz0123456789-_";
-    int all = (int)sizeof IN_LABEL - 1;
     long_name(text, 0);
-    text[NAME_LIMIT - 4] = IN_LABEL[i / all];
-    text[NAME_LIMIT - 3] = IN_LABEL[i % all];
+    text[NAME_LIMIT - 4] = IN_LABEL[i / LABEL_BYTES];
+    text[NAME_LIMIT - 3] = IN_LABEL[i % LABEL_BYTES];
 }
 
 static struct kind {
     const char *what;
     void (*write)(char *text, int i);
     int count;
-    struct entry entries[NAMES];
+    bool three_records; /* both addresses; written and loaded */
+    struct entry entries[NAMES], others[NAMES];
     uint8_t table[VICHRELKA_TABLE_LEN];
+    struct listing listing;
     int cases;
     struct list lists[5];
 } kinds[] = {
@@ -83,6 +98,9 @@ static struct kind {
     {.what = "64 names, ordinary", .write = ordinary, .count = NAMES},
     {.what = "64 names, 255 bytes", .write = long_different, .count = NAMES},
     {.what = "64 names, 255 bytes, worst", .write = long_alike, .count = NAMES},
+    {.what = "60 names, 3 records", .write = ordinary, .count = 60, .three_records = true},
+    {.what = "64 names, 3 records", .write = ordinary, .count = NAMES, .three_records = true},
+    {.what = "64 names, 255 bytes, 3 records", .write = long_different, .count = NAMES, .three_records = true},
 };
 enum { KINDS = sizeof kinds / sizeof kinds[0] };
 
@@ -101,16 +119,16 @@ static size_t wire(const char *text, uint8_t *name)
     return len;
 }
 
-static void make_entry(struct entry *e, void (*write)(char *, int), int i)
+static void make_entry(struct entry *e, void (*write)(char *, int), int i, uint32_t family)
 {
     char text[NAME_LIMIT];
     write(text, i);
     e->len = wire(text, e->name);
-    /* one address for each name: an add after a clear would not bring a second one back */
-    e->family = i % 2 ? 6 : 4;
-    e->address_len = i % 2 ? 16 : 4;
-    memcpy(e->address, i % 2 ? "\x20\x01\x0d\xb8\0\0\0\0\0\0\0\0\0\0\0" : "\xc0\0\2", e->address_len);
-    e->address[e->address_len - 1] = (uint8_t)(i + 1);
+    e->family = family;
+    e->address_len = family == 6 ? 16 : 4;
+    /* no A has a longer text: four numbers of three digits */
+    memcpy(e->address, family == 6 ? "\x20\x01\x0d\xb8\0\0\0\0\0\0\0\0\0\0\0" : "\xff\xff\xff", e->address_len);
+    e->address[e->address_len - 1] = (uint8_t)(i + 100);
     memcpy(e->dhcid, "\0\1\1", 3);
     for (int k = 3; k < VICHRELKA_DHCID_LEN; k++)
         e->dhcid[k] = (uint8_t)(i * 37 + k * 101 + 1);
@@ -123,22 +141,31 @@ static const struct contestant {
     uint64_t (*add)(uint8_t *, size_t, const uint8_t *, size_t, const uint8_t *, size_t, uint32_t, const uint8_t *, size_t, uint32_t);
     uint64_t (*remove)(uint8_t *, size_t, const uint8_t *, size_t, const uint8_t *, size_t, uint32_t, const uint8_t *, size_t);
     uint64_t (*clear)(uint8_t *, size_t, const uint8_t *, size_t);
+    uint64_t (*write)(const uint8_t *, size_t, uint8_t *, size_t);
+    uint64_t (*load)(uint8_t *, size_t, const uint8_t *, size_t);
 } contestants[] = {
-    {"vichrelka", vichrelka_table_add, vichrelka_table_remove, vichrelka_table_clear},
-    {"plain C", table_add_plain, table_remove_plain, table_clear_plain},
+    {"vichrelka", vichrelka_table_add, vichrelka_table_remove, vichrelka_table_clear, vichrelka_table_write, vichrelka_table_load},
+    {"plain C", table_add_plain, table_remove_plain, table_clear_plain, table_write_plain, table_load_plain},
 };
 enum { VICHRELKA, PLAIN, CONTESTANTS };
 
-/* each has its own table */
-static uint8_t tables[CONTESTANTS][VICHRELKA_TABLE_LEN];
+/* each has its own table, and its own room for a listing */
+static uint8_t tables[CONTESTANTS][VICHRELKA_TABLE_LEN], outs[CONTESTANTS][VICHRELKA_WRITTEN_LIMIT];
 
 /* Cases */
 
-static uint64_t call(const struct contestant *c, uint8_t *table, const struct step *s)
+/* by the contestant of this number */
+static uint64_t call(int number, const struct step *s)
 {
     static const uint8_t ANOTHER[VICHRELKA_DHCID_LEN] = {0, 2, 1};
+    const struct contestant *c = &contestants[number];
+    uint8_t *table = tables[number];
     const struct entry *e = s->entry;
     switch (s->call) {
+    case WRITE:
+        return c->write(table, VICHRELKA_TABLE_LEN, outs[number], sizeof outs[number]);
+    case LOAD:
+        return c->load(table, VICHRELKA_TABLE_LEN, s->listing->text, s->listing->len);
     case REMOVE:
         return c->remove(table, VICHRELKA_TABLE_LEN, e->name, e->len, e->dhcid, sizeof e->dhcid, e->family, e->address, e->address_len);
     case CLEAR:
@@ -151,9 +178,7 @@ static uint64_t call(const struct contestant *c, uint8_t *table, const struct st
 
 static void append(struct list *l, int call, const struct entry *e, uint64_t want)
 {
-    l->steps[l->len].call = call;
-    l->steps[l->len].entry = e;
-    l->steps[l->len++].want = want;
+    l->steps[l->len++] = (struct step){.call = call, .entry = e, .want = want};
 }
 
 static struct list *new_case(struct kind *k, const char *what, int units)
@@ -162,12 +187,52 @@ static struct list *new_case(struct kind *k, const char *what, int units)
     l->kind = k->what;
     l->what = what;
     l->units = units;
+    l->calls = k->count == 1 ? CALLS_ONE : CALLS_FULL;
     return l;
+}
+
+/* A case of one call with a listing */
+static void new_listing_case(struct kind *k, const char *what, int calls, struct step step)
+{
+    struct list *l = new_case(k, what, 1);
+    l->calls = calls;
+    l->steps[l->len++] = step;
+}
+
+/* As many names of one A as fit, the shortest first: none is there twice, which is seen only when all were compared. */
+static const struct listing *crowd(void)
+{
+    static struct listing all;
+    for (int i = 0;; i++) {
+        char line[32], label[4];
+        int at = 3, left = i;
+        label[at] = 0;
+        do
+            label[--at] = IN_LABEL[left % LABEL_BYTES];
+        while ((left = left / LABEL_BYTES - 1) >= 0);
+        size_t len = (size_t)sprintf(line, "%s. A 1.2.3.4\n", label + at);
+        if (len > sizeof all.text - all.len)
+            return &all;
+        memcpy(all.text + all.len, line, len);
+        all.len += len;
+    }
+}
+
+static void make_listing_cases(struct kind *k)
+{
+    new_listing_case(k, "write", CALLS_LISTING, (struct step){.call = WRITE, .want = k->listing.len});
+    new_listing_case(k, "load", CALLS_LISTING, (struct step){.call = LOAD, .listing = &k->listing});
+    if (k == &kinds[KINDS - 1])
+        new_listing_case(k, "load 4,470 names, refused (32)", CALLS_CROWD, (struct step){.call = LOAD, .listing = crowd(), .want = TABLE_FULL});
 }
 
 /* The call's name is the last one, which a search comes to last. */
 static void make_cases(struct kind *k)
 {
+    if (k->three_records) {
+        make_listing_cases(k);
+        return;
+    }
     const struct entry *last = &k->entries[k->count - 1];
     struct list *l = new_case(k, "add, same client", 1);
     append(l, ADD, last, 1);
@@ -202,15 +267,22 @@ static void stop_at(const struct list *l, int i, const char *who, const char *wh
     stop(where, what);
 }
 
-/* Both contestants go through the list, and after each call have the answer that is due and the same table. */
+static void call_right(const struct list *l, int i, int c)
+{
+    if (call(c, &l->steps[i]) != l->steps[i].want)
+        stop_at(l, i, contestants[c].name, "another answer than is due");
+}
+
+/* Both contestants go through the list, and after each call have the answer that is due, the same table and the same listing. */
 static void compare(const struct list *l)
 {
     for (int i = 0; i < l->len; i++) {
         for (int c = 0; c < CONTESTANTS; c++)
-            if (call(&contestants[c], tables[c], &l->steps[i]) != l->steps[i].want)
-                stop_at(l, i, contestants[c].name, "another answer than is due");
-        if (memcmp(tables[VICHRELKA], tables[PLAIN], VICHRELKA_TABLE_LEN) != 0)
+            call_right(l, i, c);
+        if (memcmp(tables[VICHRELKA], tables[PLAIN], sizeof tables[PLAIN]) != 0)
             stop_at(l, i, "the table", "vichrelka and plain C leave different bytes");
+        if (memcmp(outs[VICHRELKA], outs[PLAIN], sizeof outs[PLAIN]) != 0)
+            stop_at(l, i, "the listing", "vichrelka and plain C write different bytes");
     }
 }
 
@@ -221,17 +293,23 @@ static void as_before(const struct kind *k, const struct list *l)
             stop_at(l, l->len - 1, contestants[c].name, "the table is not as before");
 }
 
-/* The table of a kind comes of adds, which are compared as well. */
+/* The table of a kind comes of adds, which are compared as well, and its listing from plain C. */
 static void fill(struct kind *k)
 {
     struct list l = {.kind = k->what, .what = "fill"};
     for (int i = 0; i < k->count; i++) {
-        make_entry(&k->entries[i], k->write, i);
+        make_entry(&k->entries[i], k->write, i, i % 2 ? 6 : 4);
         append(&l, ADD, &k->entries[i], 0);
+        /* not for the other kinds: an add after a clear would not bring a second address back */
+        if (k->three_records) {
+            make_entry(&k->others[i], k->write, i, i % 2 ? 4 : 6);
+            append(&l, ADD, &k->others[i], 1);
+        }
     }
     memset(tables, 0, sizeof tables);
     compare(&l);
     memcpy(k->table, tables[PLAIN], sizeof k->table);
+    k->listing.len = table_write_plain(k->table, sizeof k->table, k->listing.text, sizeof k->listing.text);
 }
 
 /* Time */
@@ -239,32 +317,29 @@ static void fill(struct kind *k)
 /* what one pass is given */
 struct turn {
     const struct list *list;
-    const struct contestant *contestant;
-    uint8_t *table;
+    int contestant;
 };
 
 static void pass(const void *given)
 {
     const struct turn *t = given;
     for (int i = 0; i < t->list->len; i++)
-        if (call(t->contestant, t->table, &t->list->steps[i]) != t->list->steps[i].want)
-            stop_at(t->list, i, t->contestant->name, "another answer than is due");
+        call_right(t->list, i, t->contestant);
 }
 
 static void measure(const struct kind *k, const struct list *l)
 {
-    double best[CONTESTANTS] = {1e9, 1e9};
-    int calls = k->count == 1 ? CALLS_ONE : CALLS_FULL;
-    int passes = l->len < calls ? calls / l->len : 1;
+    double best[CONTESTANTS] = {1e9, 1e9}, began = cpu_seconds();
+    int passes = l->len < l->calls ? l->calls / l->len : 1;
     for (int c = 0; c < CONTESTANTS; c++)
         memcpy(tables[c], k->table, sizeof k->table);
     /* in turns, so that what else the machine does meets both */
-    for (int round = 0; round < ROUNDS; round++) {
+    for (int round = 0; round < ROUNDS_LEAST || (round < ROUNDS && cpu_seconds() - began < SECONDS); round++) {
         for (int c = 0; c < CONTESTANTS; c++)
-            time_passes(pass, &(struct turn){l, &contestants[c], tables[c]}, passes, &best[c]);
+            time_passes(pass, &(struct turn){l, c}, passes, &best[c]);
         as_before(k, l);
     }
-    printf("%-26s  %-26s %7.0f ns, plain C %6.0f ns, ratio %.2f\n", k->what, l->what, 1e9 * best[VICHRELKA] / l->units,
+    printf("%-30s  %-30s %9.0f ns, plain C %7.0f ns, ratio %.2f\n", k->what, l->what, 1e9 * best[VICHRELKA] / l->units,
            1e9 * best[PLAIN] / l->units, best[PLAIN] / best[VICHRELKA]);
 }
 

@@ -4,15 +4,6 @@
 #include <stdbool.h>
 #include <string.h>
 
-#include "vichrelka.h"
-
-enum { NAME_LIMIT = 255, LABEL_LIMIT = 63 };
-enum { HAS_A = 1, HAS_AAAA = 2, HAS_DHCID = 4 };
-
-/* bytes alone, so it has no padding and may stand anywhere */
-struct slot {
-    uint8_t len, name[NAME_LIMIT], flags, a[4], aaaa[16], dhcid[VICHRELKA_DHCID_LEN];
-};
 _Static_assert(sizeof(struct slot) == VICHRELKA_SLOT_LEN, "a slot is as the header says");
 
 /* a name as it is stored, in lower case */
@@ -25,8 +16,6 @@ static const struct slot NOTHING;
 
 /* what may stand in a label, in lower case */
 static const bool IN_LABEL[256] = {['a' ... 'z'] = true, ['0' ... '9'] = true, ['-'] = true, ['_'] = true};
-
-static uint64_t refuse(uint64_t number) { return number << 32; }
 
 /* Soundness */
 
@@ -51,8 +40,6 @@ static bool proper(const uint8_t *name, size_t len)
     return at > 0 && at + 1 == len;
 }
 
-static bool proper_dhcid(const uint8_t *dhcid) { return dhcid[0] == 0 && dhcid[1] <= 2 && dhcid[2] == 1; }
-
 static bool slot_sound(const struct slot *s)
 {
     return proper(s->name, s->len) && zeros(s->name + s->len, NAME_LIMIT - s->len) && s->flags >= 1 && s->flags <= 7 &&
@@ -62,8 +49,7 @@ static bool slot_sound(const struct slot *s)
 
 static bool holds(const struct slot *s, const uint8_t *name, size_t len) { return s->len == len && memcmp(s->name, name, len) == 0; }
 
-/* The number of names, or -1 for a table that is not sound */
-static int count_sound(const struct slot *slots, size_t table_len)
+int count_sound(const struct slot *slots, size_t table_len)
 {
     int count = 0;
     if (table_len != VICHRELKA_TABLE_LEN)

@@ -3,11 +3,33 @@
 #include <stddef.h>
 #include <stdint.h>
 
+#include "vichrelka.h"
+
 /* The calls on the table of names in ordinary C, with the arguments and the answers of include/vichrelka.h: the yardstick of bench/table.c. */
 uint64_t table_add_plain(uint8_t *table, size_t table_len, const uint8_t *name, size_t name_len, const uint8_t *dhcid, size_t dhcid_len,
                          uint32_t family, const uint8_t *address, size_t address_len, uint32_t policy);
 uint64_t table_remove_plain(uint8_t *table, size_t table_len, const uint8_t *name, size_t name_len, const uint8_t *dhcid, size_t dhcid_len,
                             uint32_t family, const uint8_t *address, size_t address_len);
 uint64_t table_clear_plain(uint8_t *table, size_t table_len, const uint8_t *name, size_t name_len);
+uint64_t table_load_plain(uint8_t *table, size_t table_len, const uint8_t *text, size_t text_len);
+uint64_t table_write_plain(const uint8_t *table, size_t table_len, uint8_t *out, size_t out_len);
+
+/* What its files share. */
+
+enum { NAME_LIMIT = 255, LABEL_LIMIT = 63 };
+enum { HAS_A = 1, HAS_AAAA = 2, HAS_DHCID = 4 };
+
+/* bytes alone, so it has no padding and may stand anywhere */
+struct slot {
+    uint8_t len, name[NAME_LIMIT], flags, a[4], aaaa[16], dhcid[VICHRELKA_DHCID_LEN];
+};
+
+/* The number of names, or -1 for a table that is not sound */
+int count_sound(const struct slot *slots, size_t table_len);
+
+/* identifier type and digest type, of as many bytes as a DHCID has */
+static inline int proper_dhcid(const uint8_t *dhcid) { return dhcid[0] == 0 && dhcid[1] <= 2 && dhcid[2] == 1; }
+
+static inline uint64_t refuse(uint64_t number) { return number << 32; }
 
 #endif

@@ -3,6 +3,7 @@
     ask(harness, lines)      one answer for each line: "crashed ..." or "hung" where the harness fell, "no answer" where it was not asked
                              again
     main(test)               the whole of a comparison, which a Test describes: tests/README.md says what is compared
+    held_to(edges, ...)      the cases of hand-written calls, to which the model is held too
     read_edges(path)         the hand-written texts of a data file: [Edge(text, expected, why), ...]
     shown(text)              bytes in the escape form of those files
 
@@ -67,6 +68,7 @@ class Case(NamedTuple):
     kind: str  # how the case was made, or why it has this answer
     group: str = ""  # which kind of answer that is; every group has to be met among the generated cases
     against: str = ""  # what speaks against the model: another answer was meant, or written by hand
+    is_slow: bool = False  # too slow to be asked of every shim
 
 
 class Test(NamedTuple):
@@ -96,6 +98,16 @@ def judged(test: Test, cases: Iterable[Tuple[str, Any, Any]]) -> List[Case]:
         against = "" if meant in (None, answer) else "meant: %s; the model: %s" % (test.printed(meant), right)
         judgements.append(Case(test.line(asked), right, kind, test.group(asked, answer), against))
     return judgements
+
+
+def held_to(edges: Iterable[Any], answer: Callable[[Any], Any], printed: Callable[[Any], str], line: Callable[[Any, Any], str]) -> List[Case]:
+    """Of an edge's call, the zeros behind its bytes, its answer and why; the rest is the model's. Where there are zeros it has no memory for them."""
+    cases = []
+    for edge in edges:
+        right = printed(edge.answer)
+        model = right if any(edge.zeros) else printed(answer(edge.call))
+        cases.append(Case(line(edge.call, edge.zeros), right, edge.why, against="" if model == right else "the model: " + model))
+    return cases
 
 
 class Found(NamedTuple):
@@ -201,6 +213,7 @@ def main(test: Test) -> int:
             if tally.groups[group] == 0:
                 tally.judge(False, "not one of the generated %s had the answer: %s" % (test.noun, group))
 
+        edges = [case for case in edges if not case.is_slow]
         generated = [case for batch in range(PLANTED_BATCHES) for case in judged(test, test.generated(seed, batch, test.batch))]
         for path, (by_edges, by_generated) in zip(options.planted, pool.imap(told, [(path, [edges, generated]) for path in options.planted])):
             name = os.path.basename(path)

@@ -47,8 +47,8 @@ header() {
 # build SOURCE..: the harness, with the library and with each shim before it; the sources go with every shim. The shims have no sanitizer, as the
 # library has none: what catches them is the harness.
 build() {
-  local sanitize="-fsanitize=address,undefined -fno-sanitize-recover=all" shim name object wraps source part
-  local shared=() harness=()
+  local sanitize="-fsanitize=address,undefined -fno-sanitize-recover=all" shim object source part job
+  local shared=() harness=() running=()
   echo 'int main(void) { return 0; }' >"$out/empty.c"
   # shellcheck disable=SC2086
   if ! { cc $sanitize -o "$out/empty" "$out/empty.c" && "$out/empty"; } >/dev/null 2>&1; then
@@ -69,19 +69,30 @@ build() {
   done
   planted=()
   for shim in tests/planted/"$what"/*.c; do
-    name=$(basename "$shim" .c)
-    object=$out/planted/$name.o
-    # shellcheck disable=SC2086
-    cc -std=c99 -O1 $warn -Wno-unused-function -Wno-unused-variable -Iinclude -c -o "$object" "$shim" ||
-      stop "the shim $name does not compile"
-    # the calls that it stands before, and no others
-    wraps=$(nm "$object" | sed -n 's/.* T __wrap_/-Wl,--wrap=/p')
-    [ -n "$wraps" ] || stop "the shim $name stands before no call"
-    # shellcheck disable=SC2086
-    cc $sanitize $wraps -o "$out/planted/$name" "${harness[@]}" "$object" ${shared[@]+"${shared[@]}"} "$archive" ||
-      stop "the shim $name does not link"
-    planted+=("$out/planted/$name")
+    planted+=("$out/planted/$(basename "$shim" .c)")
+    build_shim "$shim" "$sanitize" "${harness[@]}" ${shared[@]+"${shared[@]}"} &
+    running+=($!)
+    [ ${#running[@]} -lt "${JOBS:-2}" ] || { wait "${running[0]}" || exit 1; running=("${running[@]:1}"); }
   done
+  for job in ${running[@]+"${running[@]}"}; do
+    wait "$job" || exit 1
+  done
+}
+
+# build_shim SHIM SANITIZE OBJECT..: the harness with this shim before the library; whoever waits for it has to stop if it did
+build_shim() {
+  local name sanitize=$2 object wraps
+  name=$(basename "$1" .c)
+  object=$out/planted/$name.o
+  # shellcheck disable=SC2086
+  cc -std=c99 -O1 $warn -Wno-unused-function -Wno-unused-variable -Iinclude -c -o "$object" "$1" ||
+    stop "the shim $name does not compile"
+  # the calls that it stands before, and no others
+  wraps=$(nm "$object" | sed -n 's/.* T __wrap_/-Wl,--wrap=/p')
+  [ -n "$wraps" ] || stop "the shim $name stands before no call"
+  shift 2
+  # shellcheck disable=SC2086
+  cc $sanitize $wraps -o "$out/planted/$name" "$object" "$@" "$archive" || stop "the shim $name does not link"
 }
 
 # compare CASES: the library with the model, and the shims, by tests/WHAT_test.py; so many generated cases unless CASES is set

@@ -24,6 +24,9 @@
 
 enum { NOISE = 64 };
 
+/* So many zeros and more are not printed one by one. */
+enum { ZEROS = 8 };
+
 void fail(const char *what)
 {
     fprintf(stderr, "harness: %s\n", what);
@@ -110,9 +113,68 @@ int take_bytes(char **rest, struct bytes *bytes)
     return bytes->len <= ROOM;
 }
 
+int take_pieces(char **rest, uint8_t *whole, struct bytes *bytes)
+{
+    char *end = *rest + field_len(*rest), *comma;
+    struct bytes piece;
+    for (comma = *rest; comma < end; comma++)
+        if (*comma == ',')
+            *comma = ' ';
+    bytes->first = whole;
+    bytes->len = bytes->zeros = 0;
+    do {
+        if (!take_bytes(rest, &piece) || bytes->zeros > 0 || piece.len > ROOM - bytes->len)
+            return 0;
+        memcpy(whole + bytes->len, piece.first, piece.len);
+        bytes->len += piece.len;
+        if (piece.zeros > ROOM - bytes->len) {
+            bytes->zeros = piece.zeros;
+        } else {
+            memset(whole + bytes->len, 0, piece.zeros);
+            bytes->len += piece.zeros;
+        }
+    } while (*rest < end);
+    return 1;
+}
+
+/* How many zeros stand at the start of these bytes. */
+static size_t zeros_at(const uint8_t *bytes, size_t len)
+{
+    size_t n = 0;
+    while (n < len && bytes[n] == 0)
+        n++;
+    return n;
+}
+
+/* Bytes as take_pieces reads them */
+static void print_pieces(const uint8_t *bytes, size_t len)
+{
+    static const char digits[] = "0123456789abcdef";
+    size_t at = 0;
+    do {
+        size_t start = at, zeros = 0;
+        for (; at < len && (zeros = zeros_at(bytes + at, len - at)) < ZEROS; at++) {
+            putchar(digits[bytes[at] >> 4]);
+            putchar(digits[bytes[at] & 15]);
+        }
+        if (at == start)
+            putchar('-');
+        if (at < len)
+            printf("+%zu", zeros);
+        at += at < len ? zeros : 0;
+        if (at < len)
+            putchar(',');
+    } while (at < len);
+}
+
 int is_whole(const char *rest)
 {
     return *rest == '\0';
+}
+
+size_t length(const struct bytes *bytes)
+{
+    return bytes->len + bytes->zeros;
 }
 
 /* Memory to lend */
@@ -188,9 +250,54 @@ int is_as_lent(const struct room *room, size_t written)
         && memcmp(room->before + end, room->first + end, room->count - end) == 0;
 }
 
-void print_refusal(uint64_t answer)
+uint8_t *lend_or_null(struct room *room, enum way way, const struct bytes *bytes)
+{
+    uint8_t *lent = lend(room, way == STARTS ? AT_START : AT_END, bytes);
+    return way == NULLS && length(bytes) == 0 ? NULL : lent;
+}
+
+/* Calls */
+
+static void print_refusal(uint64_t answer)
 {
     printf("refused %" PRIu32 " at %" PRIu32 "\n", vichrelka_refusal(answer), vichrelka_place(answer));
+}
+
+static int is_same(const struct outcome *one, const struct outcome *other)
+{
+    return one->answer == other->answer && one->written_len == other->written_len
+        && (one->written_len == 0 || memcmp(one->written, other->written, one->written_len) == 0);
+}
+
+int ask(call_fn *call, differs_fn *differs, const void *asked, struct outcome *done)
+{
+    struct outcome other;
+    int way;
+    for (way = ENDS; way < WAYS; way++) {
+        if (way > STARTS && !differs(asked, (enum way)way))
+            continue;
+        call(asked, (enum way)way, &other);
+        if (way == ENDS)
+            *done = other;
+        if (!other.is_as_lent) {
+            printf("changed\n");
+            return 0;
+        }
+        if (!is_same(done, &other)) {
+            printf("differs %016" PRIx64 " %016" PRIx64 "\n", done->answer, other.answer);
+            return 0;
+        }
+    }
+    if (vichrelka_refusal(done->answer) != 0)
+        print_refusal(done->answer);
+    return vichrelka_refusal(done->answer) == 0;
+}
+
+void print_written(const struct outcome *done)
+{
+    printf("ok %" PRIu32 " ", vichrelka_value(done->answer));
+    print_pieces(done->written, done->written_len);
+    printf("\n");
 }
 
 int main(void)

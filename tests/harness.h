@@ -27,8 +27,14 @@ struct bytes {
     size_t zeros;
 };
 
+size_t length(const struct bytes *bytes);
+
 /* Bytes in hexadecimal, into the same memory; whether the next field is that. */
 int take_bytes(char **rest, struct bytes *bytes);
+
+/* Pieces with commas between them, each as take_bytes reads it, into `whole`, which has room for ROOM bytes. The zeros behind the last piece are
+   not written out if there is no room for them. */
+int take_pieces(char **rest, uint8_t *whole, struct bytes *bytes);
 
 /* Whether the line has no more fields. */
 int is_whole(const char *rest);
@@ -55,7 +61,30 @@ uint8_t *lend(struct room *room, enum side side, const struct bytes *bytes);
 /* Whether all that was lent, and the noise, is as before, but for so many bytes from the first lent one on. */
 int is_as_lent(const struct room *room, size_t written);
 
-/* The line of a refused answer */
-void print_refusal(uint64_t answer);
+/* How a case is called: with every slice at the end, and at the start, of memory that can be read; with null pointers for the empty ones; and with
+   one slice lent from inside another, if a call allows that. */
+enum way { ENDS, STARTS, NULLS, INSIDE, WAYS };
+
+/* The first two ways and the third: what is lent, or NULL for no bytes */
+uint8_t *lend_or_null(struct room *room, enum way way, const struct bytes *bytes);
+
+/* What one call did: its answer, what it wrote where it may, and whether it left all else as it was. The other ways do not touch what is written. */
+struct outcome {
+    uint64_t answer;
+    const uint8_t *written;
+    size_t written_len;
+    int is_as_lent;
+};
+
+/* A call of a case in one way, and whether a case differs in this way, which is NULLS or INSIDE, from the others */
+typedef void call_fn(const void *asked, enum way way, struct outcome *done);
+typedef int differs_fn(const void *asked, enum way way);
+
+/* Calls the case in all its ways; whether it was accepted, and what was done then. If not, or if the ways do not agree or one has written where it
+   should not, the line that says so is printed. */
+int ask(call_fn *call, differs_fn *differs, const void *asked, struct outcome *done);
+
+/* The line of an accepted call: its value and what it has written, in pieces */
+void print_written(const struct outcome *done);
 
 #endif

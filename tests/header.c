@@ -4,6 +4,8 @@
 #include "vichrelka.h"
 #include "vichrelka.h"
 
+#include <string.h>
+
 static const char LISTING[] =
     "tank-a.example.com. A 192.0.2.7\n"
     "client.example.com. A 192.0.2.40\n"
@@ -16,6 +18,11 @@ static const uint8_t REQUEST[] = {3, 0, 0, 0, 0, 1, 0, 14, 0, 1, 0, 6, 0x41, 0x2
 static uint64_t check(const char *text, size_t len)
 {
     return vichrelka_listing_check((const uint8_t *)text, len);
+}
+
+static uint64_t load(uint8_t *table, size_t table_len, const char *text)
+{
+    return vichrelka_table_load(table, table_len, (const uint8_t *)text, strlen(text));
 }
 
 /* The request's answers, with this setting and no name of the site */
@@ -49,6 +56,7 @@ static int wrong_numbers(void)
     wrong |= VICHRELKA_REFUSED_KEPT_BY_HAND != 31 || VICHRELKA_REFUSED_TABLE_FULL != 32 || VICHRELKA_REFUSED_NAME_NOT_HELD != 33;
     wrong |= VICHRELKA_REFUSED_ADDRESS_DIFFERS != 34 || VICHRELKA_REFUSED_TABLE_NOT_SOUND != 40 || VICHRELKA_TABLE_LEN != 19968;
     wrong |= VICHRELKA_TABLE_NAMES != 64 || VICHRELKA_SLOT_LEN != 312 || VICHRELKA_FIRST_WINS != 0 || VICHRELKA_LATEST_WINS != 1;
+    wrong |= VICHRELKA_REFUSED_RECORD_REPEATED != 35 || VICHRELKA_WRITTEN_LIMIT != 56512;
     wrong |= VICHRELKA_REFUSED_HASH_INPUT_LONG != 14 || VICHRELKA_SOURCE_MESSAGE != 0 || VICHRELKA_SOURCE_SITE != 1;
 
     wrong |= vichrelka_name_source(chosen) != 1 || vichrelka_name_start(chosen) != 300 || vichrelka_name_len(chosen) != 18;
@@ -105,7 +113,23 @@ static int wrong_listings(void)
     return wrong;
 }
 
+static int wrong_tables_as_listings(void)
+{
+    static uint8_t table[VICHRELKA_TABLE_LEN], out[VICHRELKA_WRITTEN_LIMIT];
+    int wrong = 0;
+
+    wrong |= load(table, sizeof table, LISTING) != 0 || table[0] != 20 || table[256] != 1 || table[312] != 20 || table[312 + 256] != 5;
+    wrong |= vichrelka_table_write(table, sizeof table, out, sizeof out) != 140 || memcmp(out, LISTING, 140) != 0 || out[140] != 0;
+    wrong |= vichrelka_refusal(vichrelka_table_write(table, sizeof table, out, 139)) != VICHRELKA_REFUSED_OUTPUT_SHORT;
+    wrong |= vichrelka_refusal(vichrelka_table_write(table, sizeof table - 1, out, sizeof out)) != VICHRELKA_REFUSED_TABLE_NOT_SOUND;
+    wrong |= vichrelka_refusal(load(table, sizeof table - 1, LISTING)) != VICHRELKA_REFUSED_OUTPUT_SHORT;
+    wrong |= load(table, sizeof table, "a. A 1.2.3.4\na. A 1.2.3.4\n") != (uint64_t)VICHRELKA_REFUSED_RECORD_REPEATED << 32;
+    wrong |= vichrelka_place(load(table, sizeof table, "a. A 1.2.3.4\n(")) != 13 || table[0] != 20;
+    wrong |= vichrelka_table_load(table, sizeof table, NULL, 0) != 0 || vichrelka_table_write(table, sizeof table, NULL, 0) != 0;
+    return wrong;
+}
+
 int main(void)
 {
-    return wrong_numbers() | wrong_requests() | wrong_listings() | wrong_tables();
+    return wrong_numbers() | wrong_requests() | wrong_listings() | wrong_tables() | wrong_tables_as_listings();
 }

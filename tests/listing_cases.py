@@ -12,6 +12,7 @@ import base64
 import itertools
 import random
 import re
+import struct
 from typing import Callable, Dict, Iterator, List, NamedTuple, Optional, Tuple
 
 from chance import LABEL_BYTES, label_lengths, pick_bytes, print_lines
@@ -60,7 +61,7 @@ def wire(name: bytes) -> bytes:
     return b"".join(bytes([len(label)]) + label for label in name.lower().split(b"."))
 
 
-# Data: the bytes, and a spelling of them in words
+# Data: a spelling in words
 
 def cut(rng: random.Random, digits: bytes, step: int) -> List[bytes]:
     """The same characters in some number of words, cut at multiples of a step."""
@@ -70,22 +71,14 @@ def cut(rng: random.Random, digits: bytes, step: int) -> List[bytes]:
     return [digits[a:b] for a, b in zip(marks, marks[1:])]
 
 
-def spell_a(rng: random.Random) -> Tuple[bytes, List[bytes]]:
-    data = bytes(rng.choice((0, 1, 9, 10, 99, 100, 199, 200, 249, 250, 255, rng.randrange(256))) for _ in range(4))
-    return data, [b".".join(b"%d" % byte for byte in data)]
+def a_words(_: random.Random, data: bytes) -> List[bytes]:
+    return [b".".join(b"%d" % byte for byte in data)]
 
 
-def spell_aaaa(rng: random.Random) -> Tuple[bytes, List[bytes]]:
-    groups = [rng.choice((0, 1, 0xF, 0x10, 0xFF, 0x100, 0xFFF, 0x1000, 0xFFFF, rng.randrange(65536))) for _ in range(8)]
-    spelled = [b"%x" % group for group in groups]
+def aaaa_words(rng: random.Random, data: bytes) -> List[bytes]:
+    spelled = [b"%x" % group for group in struct.unpack(">8H", data)]
     spelled = [group.rjust(rng.randint(len(group), 4), b"0") for group in spelled]
-    return (b"".join(group.to_bytes(2, "big") for group in groups),
-            [b":".join(group.upper() if rng.random() < 0.5 else group for group in spelled)])
-
-
-def dhcid(rng: random.Random) -> bytes:
-    digest = rng.choice((bytes(32), b"\xff" * 32, None, None, None, None)) or bytes(rng.getrandbits(8) for _ in range(32))
-    return bytes([0, rng.randrange(3), 1]) + digest
+    return [b":".join(group.upper() if rng.random() < 0.5 else group for group in spelled)]
 
 
 def hex_words(rng: random.Random, data: bytes, length: bytes = b"35") -> List[bytes]:
@@ -95,13 +88,27 @@ def hex_words(rng: random.Random, data: bytes, length: bytes = b"35") -> List[by
     return [b"\\#", length] + cut(rng, digits, 2)
 
 
-def spell_dhcid(rng: random.Random) -> Tuple[bytes, List[bytes]]:
-    data = dhcid(rng)
-    return data, hex_words(rng, data) if rng.random() < 0.4 else cut(rng, base64.b64encode(data), 1)
+def dhcid_words(rng: random.Random, data: bytes) -> List[bytes]:
+    return hex_words(rng, data) if rng.random() < 0.4 else cut(rng, base64.b64encode(data), 1)
 
 
-SPELL: Dict[bytes, Callable[[random.Random], Tuple[bytes, List[bytes]]]] = {
-    b"A": spell_a, b"AAAA": spell_aaaa, b"DHCID": spell_dhcid}
+WORDS_OF: Dict[bytes, Callable[[random.Random, bytes], List[bytes]]] = {b"A": a_words, b"AAAA": aaaa_words, b"DHCID": dhcid_words}
+
+
+def some_a(rng: random.Random) -> bytes:
+    return bytes(rng.choice((0, 1, 9, 10, 99, 100, 199, 200, 249, 250, 255, rng.randrange(256))) for _ in range(4))
+
+
+def some_aaaa(rng: random.Random) -> bytes:
+    return struct.pack(">8H", *(rng.choice((0, 1, 0xF, 0x10, 0xFF, 0x100, 0xFFF, 0x1000, 0xFFFF, rng.randrange(65536))) for _ in range(8)))
+
+
+def some_dhcid(rng: random.Random) -> bytes:
+    digest = rng.choice((bytes(32), b"\xff" * 32, None, None, None, None)) or bytes(rng.getrandbits(8) for _ in range(32))
+    return bytes([0, rng.randrange(3), 1]) + digest
+
+
+SOME_DATA: Dict[bytes, Callable[[random.Random], bytes]] = {b"A": some_a, b"AAAA": some_aaaa, b"DHCID": some_dhcid}
 
 
 # Entries
@@ -143,12 +150,17 @@ def laid_out(rng: random.Random, words: List[bytes], plain: bool = False) -> byt
     return out + comment(rng) if rng.random() < 0.3 else out
 
 
+def words_of(rng: random.Random, owner: bytes, rtype: bytes, data: bytes) -> List[bytes]:
+    spelled = WORDS_OF[rtype](rng, data)
+    head = [either_case(rng, b"IN")] if rng.random() < 0.4 else []
+    return [owner] + head + [either_case(rng, rtype)] + spelled
+
+
 def record_words(rng: random.Random, rtype: Optional[bytes] = None) -> Tuple[Record, List[bytes]]:
     rtype = rtype or rng.choice((b"A", b"AAAA", b"DHCID"))
     owner = name_of(rng, label_lengths(rng))
-    data, spelled = SPELL[rtype](rng)
-    head = [either_case(rng, b"IN")] if rng.random() < 0.4 else []
-    return Record(wire(owner), rtype, data), [owner] + head + [either_case(rng, rtype)] + spelled
+    data = SOME_DATA[rtype](rng)
+    return Record(wire(owner), rtype, data), words_of(rng, owner, rtype, data)
 
 
 def sound_entry(rng: random.Random) -> Entry:
@@ -204,7 +216,7 @@ def bad_group(rng: random.Random) -> bytes:
 
 
 def bad_a(rng: random.Random) -> List[bytes]:
-    numbers = spell_a(rng)[1][0].split(b".")
+    numbers = a_words(rng, some_a(rng))[0].split(b".")
     way = rng.randrange(5)
     if way == 0:
         return [b".".join(numbers[:rng.randrange(1, 4)])]
@@ -217,7 +229,7 @@ def bad_a(rng: random.Random) -> List[bytes]:
 
 
 def bad_aaaa(rng: random.Random) -> List[bytes]:
-    groups = spell_aaaa(rng)[1][0].split(b":")
+    groups = aaaa_words(rng, some_aaaa(rng))[0].split(b":")
     way = rng.randrange(6)
     if way == 0:
         return [b":".join(groups[:rng.choice((1, 2, 6, 7, 7, 7))])]
@@ -237,7 +249,7 @@ BASE64 = b"ABCDEFGHIJKLMNOPQRSTUVWXYZabcdefghijklmnopqrstuvwxyz0123456789+/"
 
 
 def bad_dhcid(rng: random.Random) -> List[bytes]:
-    data = dhcid(rng)
+    data = some_dhcid(rng)
     way = rng.choice((0, 0, 1, 2, 3, 4, 5, 6, 7, 8))
     if way == 0:  # the form of the data
         head = rng.choice((b"\0\3\1", b"\0\3\1", b"\0\3\1", b"\1\0\1", b"\1\2\1", b"\xff\xff\1", b"\0\x80\1", b"\0\0\0", b"\0\1\2", b"\0\2\xff", b"\0\4\1"))

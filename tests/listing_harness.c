@@ -10,36 +10,27 @@
 
 static struct room room;
 
-/* One call; whether all lent bytes are as before */
-static int check_at(enum side side, const struct bytes *text, uint64_t *answer)
+static void check(const void *asked, enum way way, struct outcome *done)
 {
-    const uint8_t *lent = lend(&room, side, text);
-    *answer = vichrelka_listing_check(lent, text->len + text->zeros);
-    return is_as_lent(&room, 0);
+    const struct bytes *text = asked;
+    const uint8_t *lent = lend_or_null(&room, way, text);
+    done->answer = vichrelka_listing_check(lent, length(text));
+    done->written_len = 0;
+    done->is_as_lent = is_as_lent(&room, 0);
 }
 
-static void check(const struct bytes *text)
+static int differs(const void *asked, enum way way)
 {
-    uint64_t answer, other;
-    int same = check_at(AT_END, text, &answer);
-    same = check_at(AT_START, text, &other) && same;
-    if (text->len + text->zeros == 0 && other == answer)
-        other = vichrelka_listing_check(NULL, 0);
-    if (!same)
-        printf("changed\n");
-    else if (other != answer)
-        printf("differs %016" PRIx64 " %016" PRIx64 "\n", answer, other);
-    else if (vichrelka_refusal(answer) != 0)
-        print_refusal(answer);
-    else
-        printf("ok %" PRIu32 "\n", vichrelka_value(answer));
+    return way == NULLS && length(asked) == 0;
 }
 
 int answer_line(char *line)
 {
     struct bytes text;
+    struct outcome done;
     if (!take_word(&line, "check") || !take_bytes(&line, &text) || !is_whole(line))
         return 0;
-    check(&text);
+    if (ask(check, differs, &text, &done))
+        printf("ok %" PRIu32 "\n", vichrelka_value(done.answer));
     return 1;
 }

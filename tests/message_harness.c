@@ -20,17 +20,8 @@ struct request {
     size_t out_len;
 };
 
-enum way { ENDS, STARTS, NULLS, SITE_IN_MESSAGE, WAYS };
-
-/* What one call did: its answer, what it wrote where it may, and whether it left all else as it was */
-struct outcome {
-    uint64_t answer;
-    uint8_t written[VICHRELKA_DHCID_LEN];
-    size_t written_len;
-    int is_as_lent;
-};
-
-static struct room message_room, site_room, out_room;
+/* Each way has an out of its own, so that they can be compared. */
+static struct room message_room, site_room, out_rooms[WAYS];
 
 /* Where the site's name stands in the message; NULL if it does not. */
 static const uint8_t *find(const struct bytes *message, const struct bytes *site)
@@ -42,23 +33,12 @@ static const uint8_t *find(const struct bytes *message, const struct bytes *site
     return NULL;
 }
 
-static size_t length(const struct bytes *bytes)
+static int differs(const void *asked, enum way way)
 {
-    return bytes->len + bytes->zeros;
-}
-
-/* Whether a call in this way differs from a call at the ends. */
-static int is_other(const struct request *r, enum way way)
-{
+    const struct request *r = asked;
     if (way == NULLS)
         return length(&r->message) == 0 || length(&r->site) == 0 || (r->is_dhcid && r->out_len == 0);
-    return way != SITE_IN_MESSAGE || find(&r->message, &r->site) != NULL;
-}
-
-static uint8_t *lend_or_null(struct room *room, enum way way, const struct bytes *bytes)
-{
-    uint8_t *lent = lend(room, way == STARTS ? AT_START : AT_END, bytes);
-    return way == NULLS && length(bytes) == 0 ? NULL : lent;
+    return find(&r->message, &r->site) != NULL;
 }
 
 /* vichrelka_dhcid, with an out that is lent as the others are; what it wrote */
@@ -69,20 +49,20 @@ static void call_dhcid(const struct request *r, enum way way, const uint8_t *mes
     uint8_t *lent;
     out.zeros = r->out_len - out.len;
     memset(fill, 0xa0 + (int)way, FILLED);
-    lent = lend_or_null(&out_room, way, &out);
+    lent = lend_or_null(&out_rooms[way], way, &out);
     done->answer = vichrelka_dhcid(r->family, r->setting, message, length(&r->message), site, length(&r->site), lent, r->out_len);
     if (vichrelka_refusal(done->answer) == 0)
         done->written_len = out.len < VICHRELKA_DHCID_LEN ? out.len : VICHRELKA_DHCID_LEN;
-    if (done->written_len > 0)
-        memcpy(done->written, lent, done->written_len);
-    done->is_as_lent = is_as_lent(&out_room, done->written_len);
+    done->written = lent;
+    done->is_as_lent = is_as_lent(&out_rooms[way], done->written_len);
 }
 
-static void call(const struct request *r, enum way way, struct outcome *done)
+static void call(const void *asked, enum way way, struct outcome *done)
 {
+    const struct request *r = asked;
     const uint8_t *message = lend_or_null(&message_room, way, &r->message);
     const uint8_t *site = lend_or_null(&site_room, way, &r->site);
-    if (way == SITE_IN_MESSAGE)
+    if (way == INSIDE)
         site = message + (find(&r->message, &r->site) - r->message.first);
     done->written_len = 0;
     done->is_as_lent = 1;
@@ -91,12 +71,6 @@ static void call(const struct request *r, enum way way, struct outcome *done)
     else
         done->answer = vichrelka_name(r->family, r->setting, message, length(&r->message), site, length(&r->site));
     done->is_as_lent = done->is_as_lent && is_as_lent(&message_room, 0) && is_as_lent(&site_room, 0);
-}
-
-static int is_same(const struct outcome *one, const struct outcome *other)
-{
-    return one->answer == other->answer && one->written_len == other->written_len
-        && memcmp(one->written, other->written, one->written_len) == 0;
 }
 
 static void print_name(uint64_t answer)
@@ -114,39 +88,10 @@ static void print_dhcid(const struct outcome *done)
     printf("\n");
 }
 
-static void ask(const struct request *r)
-{
-    struct outcome first, other;
-    int way;
-    call(r, ENDS, &first);
-    if (!first.is_as_lent) {
-        printf("changed\n");
-        return;
-    }
-    for (way = STARTS; way < WAYS; way++) {
-        if (!is_other(r, (enum way)way))
-            continue;
-        call(r, (enum way)way, &other);
-        if (!other.is_as_lent) {
-            printf("changed\n");
-            return;
-        }
-        if (!is_same(&first, &other)) {
-            printf("differs %016" PRIx64 " %016" PRIx64 "\n", first.answer, other.answer);
-            return;
-        }
-    }
-    if (vichrelka_refusal(first.answer) != 0)
-        print_refusal(first.answer);
-    else if (r->is_dhcid)
-        print_dhcid(&first);
-    else
-        print_name(first.answer);
-}
-
 int answer_line(char *line)
 {
     struct request r;
+    struct outcome done;
     uint64_t family, setting, out_len = 0;
     r.is_dhcid = take_word(&line, "dhcid");
     if (!r.is_dhcid && !take_word(&line, "name"))
@@ -160,6 +105,11 @@ int answer_line(char *line)
     r.family = (uint32_t)family;
     r.setting = (uint32_t)setting;
     r.out_len = (size_t)out_len;
-    ask(&r);
+    if (ask(call, differs, &r, &done)) {
+        if (r.is_dhcid)
+            print_dhcid(&done);
+        else
+            print_name(done.answer);
+    }
     return 1;
 }

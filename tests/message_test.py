@@ -24,13 +24,7 @@ def group(call: message_model.Call, answer: message_model.Answer) -> str:
 
 
 def edges() -> List[compare.Case]:
-    cases = []
-    for edge in message_edges.read_edges():
-        right = message_model.printed(edge.answer)
-        model = right if any(edge.zeros) else message_model.printed(message_model.answer(edge.call))  # it has no memory for so many
-        against = "" if model == right else "the model: " + model
-        cases.append(compare.Case(message_cases.line(edge.call, edge.zeros), right, edge.why, against=against))
-    return cases
+    return compare.held_to(message_edges.read_edges(), message_model.answer, message_model.printed, message_cases.line)
 
 
 if __name__ == "__main__":

@@ -1,11 +1,13 @@
 """The hand-written steps of table_edges.txt, which says what they mean.
 
-    read_edges()   [Edge(call, zeros, answer, why), ...]
+    read_edges()            [Edge(call, zeros, answer, why), ...]
+    read_table(form)        a table in the form of that file
+    read_lines(path, of)    the lines of such a file
 """
 
 import os
 import re
-from typing import Dict, List, NamedTuple, Tuple
+from typing import Any, Callable, Dict, List, NamedTuple, Tuple
 
 from message_edges import Bytes, read_bytes
 from table_model import A, AAAA, DHCID, SLOT, TABLE_LENGTH, Answer, Call
@@ -83,10 +85,11 @@ def edge_of(line: str) -> Edge:
     return Edge(call, (table.zeros, name.zeros, dhcid.zeros, address.zeros), answer_of(answer_form), why)
 
 
-def read_edges() -> List[Edge]:
+def read_lines(path: str, edge_of_line: Callable[[str], Any]) -> List[Any]:
+    """What each line means, with the words put in that other lines define."""
     words: Dict[str, str] = {}
-    edges: List[Edge] = []
-    with open(PATH, encoding="ascii") as file:
+    edges = []
+    with open(path, encoding="ascii") as file:
         for number, line in enumerate(file, 1):
             line = line.strip()
             try:
@@ -96,7 +99,11 @@ def read_edges() -> List[Edge]:
                     if defined:
                         words[defined[1]] = whole
                     else:
-                        edges.append(edge_of(whole))
+                        edges.append(edge_of_line(whole))
             except (KeyError, ValueError) as error:
-                raise SystemExit("%s:%d: %s" % (PATH, number, error)) from error
+                raise SystemExit("%s:%d: %s" % (path, number, error)) from error
     return edges
+
+
+def read_edges() -> List[Edge]:
+    return read_lines(PATH, edge_of)

@@ -23,13 +23,7 @@ def group(call: table_model.Call, answer: table_model.Answer) -> str:
 
 
 def edges() -> List[compare.Case]:
-    cases = []
-    for edge in table_edges.read_edges():
-        right = table_model.printed(edge.answer)
-        model = right if any(edge.zeros) else table_model.printed(table_model.answer(edge.call))  # it has no memory for so many
-        against = "" if model == right else "the model: " + model
-        cases.append(compare.Case(table_cases.line(edge.call, edge.zeros), right, edge.why, against=against))
-    return cases
+    return compare.held_to(table_edges.read_edges(), table_model.answer, table_model.printed, table_cases.line)
 
 
 if __name__ == "__main__":

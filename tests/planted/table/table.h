@@ -118,7 +118,9 @@ static inline uint64_t ask_only(const struct step *s)
     return ask(&other);
 }
 
-/* All calls, where the library takes the table for not sound: of a copy as `mend` leaves it, which is what the table then holds. */
+/* All calls, where the library takes the table for not sound: of a copy as `mend` leaves it, which is what the table then holds. The shims of write
+   (planted/load/load.h) have this for their own call, and some of them are the same files. */
+#ifndef PLANT_MENDED
 #define PLANT_MENDED(mend) \
     static uint64_t answer_mended(struct step *s) \
     { \
@@ -136,6 +138,7 @@ static inline uint64_t ask_only(const struct step *s)
         return answer; \
     } \
     PLANT_ALL(answer_mended)
+#endif
 
 /* The same, where `mend` is called with each slot that is used. */
 #define PLANT_MENDED_SLOTS(mend) \

@@ -27,10 +27,11 @@ part-result-end c =
 
 returns : tie.Need-returns
 returns c =
-    let k = c .before .before .before .args .rtype in
+    let start = c .before .before .before in
+    let k = start .args .rtype in
     let at = c .before .field-offset .result in
     let size : at + 35 - at ≡ 35 = omega arith in
-    let part = ap₂ (λ (n o : ℕ). take n (drop o (now (c .before .before .before .args .slot)))) size (c .before .field-offset .ensures) in
+    let part = ap₂ (λ (n o : ℕ). take n (drop o (now (start .args .slot)))) size (c .before .field-offset .ensures) in
     λ e w form. (ap length part ∙ data-long (slot-of w form) k, ap (take (fieldSize k)) part ∙ data-first (slot-of w form) k)
 
 pub data-from-spec : {M : Type 1} → statement M

@@ -17,8 +17,9 @@ slice-write-slot c = omega (arith, ap length (c .before .before .before .pre .0)
 
 put-canonical-requires : tie.Need-put-canonical-requires
 put-canonical-requires c κs =
-    let a = c .before .before .before .before .args in
-    omega (arith, c .before .before .before .before .pre .1, ap length (c .before .before .before .before .pre .0), length-set (now (a .slot)) 0 (length (now (a .name))))
+    let start = c .before .before .before .before in
+    let a = start .args in
+    omega (arith, start .pre .1, ap length (start .pre .0), length-set (now (a .slot)) 0 (length (now (a .name))))
 
 put-data-requires : tie.Need-put-data-requires
 put-data-requires c κs =
@@ -29,17 +30,21 @@ put-data-requires c κs =
 
 same-length : tie.Need-same-length
 same-length c =
-    let start = c .before .before .before .before .before .before .before .before .before .before .before in
+    let at-put-data = c .before .before in
+    let at-put-canonical = at-put-data .before .before .before .before in
+    let start = at-put-canonical .before .before .before .before .before in
     let n = now (start .args .name) in
-    let s = named (now (start .args .slot)) (canonical n) (length n) (start .pre .0) (sym (length-canonical n)) (omega (arith, start .pre .1, length-canonical n)) (c .before .before .before .before .before .before .put-canonical .ensures) in
-    long (field-put s (start .args .rtype) (now (start .args .bytes)) (start .pre .2) (c .before .before .put-data .ensures)) ∙ sym (ap length (start .pre .0))
+    let s = named (now (start .args .slot)) (canonical n) (length n) (start .pre .0) (sym (length-canonical n)) (omega (arith, start .pre .1, length-canonical n)) (at-put-canonical .put-canonical .ensures) in
+    long (field-put s (start .args .rtype) (now (start .args .bytes)) (start .pre .2) (at-put-data .put-data .ensures)) ∙ sym (ap length (start .pre .0))
 
 returns : tie.Need-returns
 returns c =
-    let start = c .before .before .before .before .before .before .before .before .before .before .before in
+    let at-put-data = c .before .before in
+    let at-put-canonical = at-put-data .before .before .before .before in
+    let start = at-put-canonical .before .before .before .before .before in
     let n = now (start .args .name) in
-    let s = named (now (start .args .slot)) (canonical n) (length n) (start .pre .0) (sym (length-canonical n)) (omega (arith, start .pre .1, length-canonical n)) (c .before .before .before .before .before .before .put-canonical .ensures) in
-    field-put s (start .args .rtype) (now (start .args .bytes)) (start .pre .2) (c .before .before .put-data .ensures) .form
+    let s = named (now (start .args .slot)) (canonical n) (length n) (start .pre .0) (sym (length-canonical n)) (omega (arith, start .pre .1, length-canonical n)) (at-put-canonical .put-canonical .ensures) in
+    field-put s (start .args .rtype) (now (start .args .bytes)) (start .pre .2) (at-put-data .put-data .ensures) .form
 
 pub enter-record-spec : {M : Type 1} → statement M
 enter-record-spec =

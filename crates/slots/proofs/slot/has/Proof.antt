@@ -20,7 +20,9 @@ is-set-requires c κs = omega (arith, field-bit-some (c .before .before .before 
 
 returns : tie.Need-returns
 returns c =
-    λ e w form. c .is-set .ensures ∙ ap (λ (k : ℕ). isSet k (getD (now (c .before .before .before .before .args .slot)) 256 0)) (c .before .before .field-bit .ensures) ∙ field-flag (slot-of w form) (c .before .before .before .before .args .rtype)
+    let at-field-bit = c .before .before in
+    let start = at-field-bit .before .before in
+    λ e w form. c .is-set .ensures ∙ ap (λ (k : ℕ). isSet k (getD (now (start .args .slot)) 256 0)) (at-field-bit .field-bit .ensures) ∙ field-flag (slot-of w form) (start .args .rtype)
 
 pub has-spec : {M : Type 1} → statement M
 has-spec = tie.close (tie.spec field-bit-requires shared-slice-read-is-set is-set-requires returns)

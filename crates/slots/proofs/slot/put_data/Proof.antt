@@ -16,16 +16,21 @@ field-offset-requires c κs = search needs
 
 put-field-requires : tie.Need-put-field-requires
 put-field-requires c κs =
-    let k = c .before .before .before .before .before .args .rtype in
-    (c .before .before .before .before .before .pre .0, omega (arith, field-fits k), omega (arith, field-bit-some k), omega (arith, field-bit-small k))
+    let start = c .before .before .before .before .before in
+    let k = start .args .rtype in
+    (start .pre .0, omega (arith, field-fits k), omega (arith, field-bit-some k), omega (arith, field-bit-small k))
 
 same-length : tie.Need-same-length
 same-length c = search needs
 
 returns : tie.Need-returns
 returns c =
-    let a = c .before .before .before .before .before .before .before .before .args in
-    c .before .before .put-field .ensures ∙ ap₂ (λ (bit at : ℕ). fieldPut (now (a .slot)) bit at (now (a .bytes))) (c .before .before .before .before .field-bit .ensures) (c .before .before .before .field-offset .ensures)
+    let at-put-field = c .before .before in
+    let at-field-offset = at-put-field .before in
+    let at-field-bit = at-field-offset .before in
+    let start = at-field-bit .before .before .before .before in
+    let a = start .args in
+    at-put-field .put-field .ensures ∙ ap₂ (λ (bit at : ℕ). fieldPut (now (a .slot)) bit at (now (a .bytes))) (at-field-bit .field-bit .ensures) (at-field-offset .field-offset .ensures)
 
 pub put-data-spec : {M : Type 1} → statement M
 put-data-spec =

@@ -1,0 +1,4 @@
+/* Names are counted in a byte. */
+#include "load.h"
+
+PLANT_FULL(name_count %= 256)

@@ -1,0 +1,4 @@
+/* As for the steps on a table */
+#include "load.h"
+
+#include "../table/stored_upper.c"

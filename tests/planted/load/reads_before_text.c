@@ -1,0 +1,10 @@
+/* One byte before the text is read. */
+#include "load.h"
+
+uint64_t planted_load(LOADING)
+{
+    volatile const uint8_t *lent = text;
+    if (text_len > 0)
+        (void)*(lent - 1);
+    return right_load(GIVEN_LOADING);
+}

@@ -1,0 +1,10 @@
+/* 35 comes before the fault of a later entry. */
+#include "load.h"
+
+uint64_t planted_load(LOADING)
+{
+    uint64_t answer = right_load(GIVEN_LOADING);
+    if (is_fault_of_entry(answer) && right_load(area, 0, text, vichrelka_place(answer)) == refused(RECORD_REPEATED, 0))
+        return refused(RECORD_REPEATED, 0);
+    return answer;
+}

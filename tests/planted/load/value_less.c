@@ -1,0 +1,8 @@
+/* The answer is one byte too few. */
+#include "load.h"
+
+uint64_t planted_write(WRITING)
+{
+    uint64_t answer = right_write(GIVEN_WRITING);
+    return vichrelka_value(answer) > 0 ? answer - 1 : answer;
+}
