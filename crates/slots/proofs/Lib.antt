@@ -1,8 +1,10 @@
+pub mod SameLaws
 pub mod LaidLaws
 pub mod FlagLaws
 pub mod TableLaws
 pub mod NameLaws
 pub mod SlotLaws
+pub mod FirstLaws
 pub mod SplitLaws
 pub mod OneLaws
 pub mod Theorems

@@ -2,6 +2,7 @@
 use crate::Family;
 use crate::Holding;
 use crate::Rtype;
+use crate::field::are_zeros;
 use crate::field::is_set;
 use crate::field::is_zero;
 use crate::field::is_zero_unless_set;
@@ -96,7 +97,7 @@ pub(crate) fn is_slot(slot: &[u8]) -> bool
         return false;
     }
     // nothing stands after the name
-    if !is_zero(&slot[end..FLAGS]) {
+    if !are_zeros(&slot[end..FLAGS]) {
         return false;
     }
     are_fields(slot)

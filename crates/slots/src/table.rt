@@ -1,18 +1,19 @@
 // The table: a row of slots, of which the used ones come first.
 use crate::field::is_zero;
 use crate::field::put_zeros;
+use crate::field::same;
 use crate::slot;
 use crate::slot::is_slot;
 use name::wire::matches;
 ghost use mathlib.Core.Path.{_≡_};
-ghost use mathlib.Core.List.{[]};
+ghost use mathlib.Core.List.{List, [], _∷_};
 ghost use Prim.Native.Nat.{_+_, _≤_, _<_};
 ghost use lib.ListN.{length, drop};
 ghost use Rattle.base.specs.Bytes.{overlay};
 ghost use Rattle.base.specs.Logic.{Decides};
 ghost use Rattle.name.specs.Name.{canonical};
 ghost use Rattle.slots.specs.Entry.{names, position, Distinct};
-ghost use Rattle.slots.specs.Form.{Sound, tableBytes};
+ghost use Rattle.slots.specs.Form.{TableEntry, Sound, tableBytes};
 ghost use Rattle.slots.specs.Promise.{Entries, OfTable, nameAt, closedUp};
 
 // How many slots there are, and their bytes.
@@ -70,18 +71,33 @@ pub fn find(table: &[u8], name: &[u8]) -> usize
     i
 }
 
-// Does no name stand twice? It does not if each is found where it stands.
+// Does the name in slot i stand in no slot before it?
+fn is_first(table: &[u8], i: usize) -> bool
+    requires { ⌜ (Entries 64 (now table)) × (i < 64) ⌝ }
+    ensures { λ b. ⌜ OfTable 64 (now (table .entry)) (λ t. ((e : TableEntry) (r : List TableEntry) → drop i t ≡ e ∷ r → Decides b (position (e .name) t ≡ i))) ⌝ }
+{
+    let name = name_at(table, i);
+    let mut j: usize = 0;
+    while j < i {
+        if same(name_at(table, j), name) {
+            return false;
+        }
+        j += 1;
+    }
+    true
+}
+
+// Does no name stand twice? It does not if each stands in no slot before its own.
 fn no_name_twice(table: &[u8]) -> bool
     requires { ⌜ Entries 64 (now table) ⌝ }
     ensures { λ r. ⌜ OfTable 64 (now (table .entry)) (λ t. Decides r (Distinct (names t))) ⌝ }
 {
     let mut i: usize = 0;
     while i < SLOTS {
-        let held = name_at(table, i);
-        if held.len() == 0 {
+        if table[slot::SIZE * i] == 0 {
             return true;
         }
-        if find(table, held) != i {
+        if !is_first(table, i) {
             return false;
         }
         i += 1;

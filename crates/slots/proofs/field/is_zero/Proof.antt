@@ -2,11 +2,12 @@ use Prim.Native.Nat.{ℕ, _-_, _≤_}
 use mathlib.Core.Path.{_≡_, refl, sym, ap, ap₂, _∙_}
 use mathlib.Core.List.{List}
 use native.Mathlib.Omega.{arith}
-use lib.Bits.{bitOr, or-add-and, and-le-l, and-le-r}
+use lib.Bits.{bitOr}
 use lib.ListN.{length, getD, take, replicate, length-replicate, getD-replicate}
 use lib.Seq.{take-all}
 use borrow.Author.Tests.{eqb-true, eqb-false}
 use Rattle.base.proofs.Lists.{take-more}
+use Rattle.slots.proofs.SameLaws.{or-none}
 use Rattle.slots.proofs.field.is_zero.Statement.{statement}
 use Rattle.slots.proofs.field.is_zero.Tie as tie
 
@@ -19,9 +20,6 @@ pub record Passed (b : List ℕ) (bits i : ℕ) : Type 0 where
   pub low : i ≤ length b
   pub forth : bits ≡ 0 → take i b ≡ take i (zeros b)
   pub back : b ≡ zeros b → bits ≡ 0
-
-or-none : (x y : ℕ) → bitOr x y ≡ 0 → (x ≡ 0) × (y ≡ 0)
-or-none x y e = (omega (arith, or-add-and x y, and-le-r x y), omega (arith, or-add-and x y, and-le-l x y))
 
 abbrev Inv-loop : tie.InvT-loop
 Inv-loop bytes bits₀ i₀ bits i = Passed bytes bits i

@@ -1,57 +1,63 @@
-use Prim.Native.Nat.{_-_, _≤_, ℕ}
-use mathlib.Core.Path.{_≡_, refl, sym, ap, _∙_}
-use mathlib.Core.List.{List}
+use Prim.Native.Nat.{_-_, _≤_}
+use mathlib.Core.Path.{_≡_, refl, sym, ap}
 use denote.Ref.{now}
 use native.Mathlib.Omega.{arith}
-use lib.ListN.{length, getD, take}
-use lib.Seq.{take-all}
-use Rattle.base.proofs.Lists.{take-more}
-use Rattle.base.proofs.Tests.{eq-eqBytes, ne-eqBytes}
+use lib.ListN.{length, take}
+use borrow.Author.Needs.{needs}
+use borrow.Author.Tests.{not-true, not-false}
+use Rattle.base.proofs.Tests.{ne-eqBytes}
+use Rattle.slots.proofs.SameLaws.{chunk-more, chunk-differs, rest-decides}
 use Rattle.slots.proofs.field.same.Statement.{statement}
 use Rattle.slots.proofs.field.same.Tie as tie
 
 abbrev Inv-loop : tie.InvT-loop
-Inv-loop a b i₀ i = (i ≤ length a) × (take i a ≡ take i b)
+Inv-loop a b at₀ at = (at ≤ length a) × (take at a ≡ take at b)
 
 abbrev μ-loop : tie.MeasureT-loop
-μ-loop a b i₀ i = length a - i
+μ-loop a b at₀ at = length a - at
 
 returns : tie.Need-returns Inv-loop μ-loop
 returns c =
-    let p = c .before .args in
+    let p = c .before .before .before .args in
     sym (ne-eqBytes (now (p .a)) (now (p .b)) (λ e. c .if1 .taken (ap length e)))
 
 loop-holds : tie.Need-loop-holds Inv-loop μ-loop
 loop-holds c = (omega arith, refl)
 
-shared-slice-read-if2 : tie.Need-shared-slice-read-if2 Inv-loop μ-loop
-shared-slice-read-if2 c = omega arith
+sub-loop : tie.Need-sub-loop Inv-loop μ-loop
+sub-loop c = c .loop .inv .0
 
-shared-slice-read-if2-2 : tie.Need-shared-slice-read-if2-2 Inv-loop μ-loop
-shared-slice-read-if2-2 c = omega arith
+same-chunk-requires : tie.Need-same-chunk-requires Inv-loop μ-loop
+same-chunk-requires c κs =
+    let l = c .before in
+    let h = l .loop .inv .0 in
+    let long = l .before .if1 .left in
+    (omega (arith, h, c .loop-test .taken), omega (arith, h, c .loop-test .taken, long))
 
 returns-2 : tie.Need-returns-2 Inv-loop μ-loop
 returns-2 c =
-    let p = c .before .before .before .before .before .before .args in
-    let i = c .before .before .before .before .loop .i in
-    sym (ne-eqBytes (now (p .a)) (now (p .b)) (λ e. c .if2 .taken (ap (λ (l : List ℕ). getD l i 0) e)))
+    let l = c .before .before .before in
+    chunk-differs _ _ (l .loop .at) (c .before .same-chunk .ensures .if-false (not-true _ (c .if2 .taken)))
 
-add-i : tie.Need-add-i Inv-loop μ-loop
-add-i c = omega arith
+add-at : tie.Need-add-at Inv-loop μ-loop
+add-at c = search needs
 
 loop-less : tie.Need-loop-less Inv-loop μ-loop
 loop-less c = omega arith
 
 loop-again : tie.Need-loop-again Inv-loop μ-loop
 loop-again c =
-    let p = c .before .before .before .before .before .before .args in
-    (omega arith, take-more (now (p .a)) (now (p .b)) _ (c .before .before .before .before .loop .inv .1) (c .if2 .left) (omega arith) (omega arith))
+    let l = c .before .before .before in
+    let h = l .loop .inv in
+    (omega (arith, h .0, c .before .before .loop-test .taken), chunk-more _ _ (l .loop .at) (h .1) (c .before .same-chunk .ensures .if-true (not-false _ (c .if2 .left))))
+
+same-from-requires : tie.Need-same-from-requires Inv-loop μ-loop
+same-from-requires c κs = let l = c .before in (l .loop .inv .0, l .before .if1 .left)
 
 returns-3 : tie.Need-returns-3 Inv-loop μ-loop
 returns-3 c =
-    let p = c .before .before .before .args in
-    let i = c .before .loop .i in
-    sym (eq-eqBytes (now (p .a)) (now (p .b)) (sym (take-all i (now (p .a)) (omega arith)) ∙ c .before .loop .inv .1 ∙ take-all i (now (p .b)) (omega arith)))
+    let l = c .before .before in
+    rest-decides _ _ (l .loop .at) (c .same-from .result) (l .loop .inv .1) (c .same-from .ensures)
 
 pub same-spec : {M : Type 1} → statement M
 same-spec =
@@ -61,10 +67,11 @@ same-spec =
     μ-loop
     returns
     loop-holds
-    shared-slice-read-if2
-    shared-slice-read-if2-2
+    sub-loop
+    same-chunk-requires
     returns-2
-    add-i
+    add-at
     loop-less
     loop-again
+    same-from-requires
     returns-3)

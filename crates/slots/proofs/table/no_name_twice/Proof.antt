@@ -1,14 +1,11 @@
 use Prim.Native.Nat.{_-_}
-use mathlib.Core.Path.{sym, _∙_, ap}
 use native.Mathlib.Omega.{arith}
-use lib.ListN.{length}
 use borrow.Author.Needs.{needs}
-use Rattle.name.specs.Name.{canonical}
+use borrow.Author.Tests.{not-true, not-false}
 use Rattle.base.proofs.Tests.{yes-by, no-by}
 use Rattle.slots.specs.Promise.{OfTable}
-use Rattle.slots.specs.Entry.{position}
-use Rattle.slots.proofs.NameLaws.{Compared, compared-none, compared-end, compared-more, distinct-own}
-use Rattle.slots.proofs.TableLaws.{length-table, no-more, held-none, held-some}
+use Rattle.slots.proofs.NameLaws.{Compared, compared-none, compared-end, compared-more, entry-at, distinct-own}
+use Rattle.slots.proofs.TableLaws.{length-table, no-more, none-at, some-at}
 use Rattle.slots.proofs.table.no_name_twice.Statement.{statement}
 use Rattle.slots.proofs.table.no_name_twice.Tie as tie
 
@@ -21,31 +18,29 @@ abbrev μ-loop : tie.MeasureT-loop
 loop-holds : tie.Need-loop-holds Inv-loop μ-loop
 loop-holds c = λ t h. compared-none t
 
-name-at-requires : tie.Need-name-at-requires Inv-loop μ-loop
-name-at-requires c κs = let e = c .before .before .before .pre in (length-table 64 (e .0) _ (e .1), c .loop-test .taken)
+mul-if1 : tie.Need-mul-if1 Inv-loop μ-loop
+mul-if1 c = search needs
+
+shared-slice-read-if1 : tie.Need-shared-slice-read-if1 Inv-loop μ-loop
+shared-slice-read-if1 c =
+    let p = c .before .before .before .before .pre in
+    omega (arith, length-table 64 (p .0) _ (p .1), c .before .loop-test .taken)
 
 returns : tie.Need-returns Inv-loop μ-loop
 returns c = λ t h.
     let l = c .before .before .before in
     let s = l .loop .inv t h in
-    yes-by
-    (compared-end t (l .loop .i) s
-    (held-none 64 t _ h (l .loop .i) (s .low) (c .before .before .loop-test .taken) (ap length (sym (c .before .name-at .ensures)) ∙ c .if1 .taken)))
+    yes-by (compared-end t (l .loop .i) s (none-at 64 t _ h (l .loop .i) (s .low) (c .if1 .taken)))
 
-find-requires : tie.Need-find-requires Inv-loop μ-loop
-find-requires c κs = search needs
+is-first-requires : tie.Need-is-first-requires Inv-loop μ-loop
+is-first-requires c κs = (c .before .before .before .before .before .pre, c .before .before .loop-test .taken)
 
 returns-2 : tie.Need-returns-2 Inv-loop μ-loop
 returns-2 c = λ t h.
-    let n = c .before .before .before in
-    let l = n .before .before in
+    let l = c .before .before .before .before .before in
     let s = l .loop .inv t h in
-    let e = held-some 64 t _ h (l .loop .i) (s .low) (n .before .loop-test .taken) (λ none. c .before .before .if1 .left (ap length (n .name-at .ensures) ∙ none)) in
-    no-by
-    (λ d.
-    c .if2 .taken
-    (c .before .find .ensures t h ∙ ap (λ m. position m t) (ap canonical (n .name-at .ensures ∙ e .name) ∙ e .well-formed .lower)
-    ∙ distinct-own t (l .loop .i) (e .entry) (e .later) (e .at) d))
+    let u = some-at 64 t _ h (l .loop .i) (s .low) (c .before .before .before .before .loop-test .taken) (c .before .before .if1 .left) in
+    no-by (λ d. c .before .is-first .ensures t h (u .entry) (u .later) (u .order) .if-false (not-true _ (c .if2 .taken)) (distinct-own t (l .loop .i) (u .entry) (u .later) (entry-at t (l .loop .i) (u .entry) (u .later) (u .order)) d))
 
 add-i : tie.Need-add-i Inv-loop μ-loop
 add-i c = omega arith
@@ -55,12 +50,11 @@ loop-less c = omega arith
 
 loop-again : tie.Need-loop-again Inv-loop μ-loop
 loop-again c = λ t h.
-    let n = c .before .before .before in
-    let l = n .before .before in
+    let l = c .before .before .before .before .before in
     let s = l .loop .inv t h in
-    let e = held-some 64 t _ h (l .loop .i) (s .low) (n .before .loop-test .taken) (λ none. c .before .before .if1 .left (ap length (n .name-at .ensures) ∙ none)) in
-    compared-more t (l .loop .i) s (e .entry) (e .later) (e .at)
-    (sym (sym (c .if2 .left) ∙ c .before .find .ensures t h ∙ ap (λ m. position m t) (ap canonical (n .name-at .ensures ∙ e .name) ∙ e .well-formed .lower)))
+    let u = some-at 64 t _ h (l .loop .i) (s .low) (c .before .before .before .before .loop-test .taken) (c .before .before .if1 .left) in
+    compared-more t (l .loop .i) s (u .entry) (u .later) (entry-at t (l .loop .i) (u .entry) (u .later) (u .order))
+    (c .before .is-first .ensures t h (u .entry) (u .later) (u .order) .if-true (not-false _ (c .if2 .left)))
 
 returns-3 : tie.Need-returns-3 Inv-loop μ-loop
 returns-3 c = λ t h.
@@ -75,9 +69,10 @@ no-name-twice-spec =
     Inv-loop
     μ-loop
     loop-holds
-    name-at-requires
+    mul-if1
+    shared-slice-read-if1
     returns
-    find-requires
+    is-first-requires
     returns-2
     add-i
     loop-less
