@@ -32,6 +32,9 @@ extern "C" {
 /* The most bytes that a DHCP message may have. */
 #define VICHRELKA_MESSAGE_LIMIT 2048
 
+/* The most bytes that a name has in wire form, its last zero byte included. */
+#define VICHRELKA_NAME_LIMIT 255
+
 /* The bytes of a DHCID: two of identifier type, one of digest type, 32 of SHA-256. */
 #define VICHRELKA_DHCID_LEN 35
 
@@ -42,6 +45,13 @@ extern "C" {
 #define VICHRELKA_TABLE_NAMES 64
 #define VICHRELKA_SLOT_LEN 312
 #define VICHRELKA_TABLE_LEN (VICHRELKA_TABLE_NAMES * VICHRELKA_SLOT_LEN)
+
+/* Where the fields of a slot begin; its first byte is the name's length. See below, "The table of names". */
+#define VICHRELKA_SLOT_NAME 1
+#define VICHRELKA_SLOT_FLAGS 256
+#define VICHRELKA_SLOT_A 257
+#define VICHRELKA_SLOT_AAAA 261
+#define VICHRELKA_SLOT_DHCID 277
 
 /* The most bytes that a table is as a listing: 883 for each name, so that this much output is always enough. */
 #define VICHRELKA_WRITTEN_LIMIT (VICHRELKA_TABLE_NAMES * 883)
