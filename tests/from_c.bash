@@ -1,20 +1,12 @@
 # For the scripts of this folder that test the library from C: they source this file and call, in this order, `begin`, then `header` or
-# `build` and `compare`, then `finish`. Settings from outside:
+# `build` and `compare`, then `finish` of tests/texts.bash, which comes with it. Settings from outside:
 #   SEED, CASES        the generated cases (default 1, and what the script says)
 #   JOBS               processes (default 2)
 #   VICHRELKA_ARCHIVE  a static library to test in place of the one that `rt staticlib gateway` builds
 # shellcheck shell=bash
 
-passed=0
-failed=0
+. tests/texts.bash
 warn="-pedantic -Wall -Wextra -Werror"
-
-# stop WHY: what cannot be tested is a failure
-stop() {
-  echo "$what: $1"
-  echo "$passed passed, $((failed + 1)) failed"
-  exit 1
-}
 
 # begin WHAT: a folder for what is built, and the archive
 begin() {
@@ -36,25 +28,26 @@ header() {
   local language=$1
   shift
   # shellcheck disable=SC2086
-  if "$@" $warn -Iinclude -o "$out/header" && "$out/header"; then
-    passed=$((passed + 1))
-  else
-    echo "$what: the header fails as $language"
-    failed=$((failed + 1))
-  fi
+  if "$@" $warn -Iinclude -o "$out/header" && "$out/header"; then pass; else fail "the header fails as $language"; fi
 }
 
-# build SOURCE..: the harness, with the library and with each shim before it; the sources go with every shim. The shims have no sanitizer, as the
-# library has none: what catches them is the harness.
-build() {
-  local sanitize="-fsanitize=address,undefined -fno-sanitize-recover=all" shim object source part job
-  local shared=() harness=() running=()
+# sanitizers: the flags for AddressSanitizer and UBSan, as $sanitize; none if this compiler does not have them, which is said
+sanitizers() {
+  sanitize="-fsanitize=address,undefined -fno-sanitize-recover=all"
   echo 'int main(void) { return 0; }' >"$out/empty.c"
   # shellcheck disable=SC2086
   if ! { cc $sanitize -o "$out/empty" "$out/empty.c" && "$out/empty"; } >/dev/null 2>&1; then
     echo "$what: this compiler has no AddressSanitizer and UBSan, so without them"
     sanitize=
   fi
+}
+
+# build SOURCE..: the harness, with the library and with each shim before it; the sources go with every shim. The shims have no sanitizer, as the
+# library has none: what catches them is the harness.
+build() {
+  local shim object source part job sanitize
+  local shared=() harness=() running=()
+  sanitizers
   for part in harness "${what}_harness"; do
     # shellcheck disable=SC2086
     cc -std=c99 -O1 -g $warn $sanitize -Iinclude -c -o "$out/$part.o" "tests/$part.c" || stop "$part.c does not compile"
@@ -106,10 +99,4 @@ compare() {
   passed=$((passed + BASH_REMATCH[1]))
   failed=$((failed + BASH_REMATCH[2]))
   [ "$status" -eq 0 ] || [ "${BASH_REMATCH[2]}" -ne 0 ] || failed=$((failed + 1))
-}
-
-# finish: the last line, and the exit status
-finish() {
-  echo "$passed passed, $failed failed"
-  [ "$failed" -eq 0 ] && [ "$passed" -gt 0 ]
 }

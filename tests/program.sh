@@ -7,60 +7,12 @@ set -uo pipefail
 cd "$(dirname "$0")/.." || exit 2
 program=$PWD/target/bin/listing_check
 script=./listing-check
+what=program
 out=target/tests/program
-passed=0
-failed=0
+. tests/texts.bash
 rm -rf "$out"
 mkdir -p "$out"
 ulimit -c 0
-
-# stop WHY: what cannot be tested is a failure
-stop() {
-  echo "program: $1"
-  echo "$passed passed, $((failed + 1)) failed"
-  exit 1
-}
-
-pass() {
-  passed=$((passed + 1))
-}
-
-fail() {
-  echo "program: $1"
-  failed=$((failed + 1))
-}
-
-# show FILE: a text that may have any bytes, its beginning
-show() {
-  head -c 2000 "$1" | cat -v | sed 's/^/    | /'
-}
-
-# same WHAT EXPECTED ACTUAL: two files, byte for byte
-same() {
-  if cmp -s "$2" "$3"; then
-    pass
-  else
-    fail "$1: expected"
-    show "$2"
-    echo "  but it is"
-    show "$3"
-  fi
-}
-
-# is WHAT EXPECTED ACTUAL: two words
-is() {
-  if [ "$2" = "$3" ]; then pass; else fail "$1: expected '$2', but it is '$3'"; fi
-}
-
-# has WHAT TEXT FILE: the file has the text in it
-has() {
-  if grep -qF -e "$2" "$3"; then
-    pass
-  else
-    fail "$1: expected to find '$2' in"
-    show "$3"
-  fi
-}
 
 # answers WHAT EXPECTED: what the program makes of standard input, with nothing on the error stream
 answers() {
@@ -298,5 +250,4 @@ touch -d '1 minute' "$fresh/crates/newer"
 scripted "newer sources without the toolchain" 0 "$folder/site.expected" "$folder/site.listing"
 has "newer sources without the toolchain" "WARNING" "$out/said"
 
-echo "$passed passed, $failed failed"
-[ "$failed" -eq 0 ] && [ "$passed" -gt 0 ]
+finish

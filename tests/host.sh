@@ -1,0 +1,243 @@
+#!/usr/bin/env bash
+# The example gateway of examples/host, from C99 and again with AddressSanitizer and UBSan: the stored examples, the accident in three ways among them, then
+# damaged messages, every refusal that a command can lead to, a full table, files that are not there and lines that are no commands. What it says is compared
+# byte for byte, and its exit status. The DHCIDs of the examples are compared with those that Python makes from RFC 4701's definition.
+# Last line: `N passed, M failed`, counting comparisons.
+set -uo pipefail
+cd "$(dirname "$0")/.." || exit 2
+. tests/from_c.bash
+begin host
+sanitizers
+folder=examples/host
+top=$PWD/$out
+hosts=("$top/host")
+# shellcheck disable=SC2086
+cc -std=c99 -O2 $warn -Iinclude -o "$out/host" "$folder/host.c" "$archive" || stop "host.c does not compile"
+if [ -n "$sanitize" ]; then
+  # shellcheck disable=SC2086
+  cc -std=c99 -O1 -g $warn $sanitize -Iinclude -o "$out/sanitized" "$folder/host.c" "$archive" || stop "host.c does not compile with sanitizers"
+  hosts+=("$top/sanitized")
+fi
+run=$top/run
+rm -rf "$run"
+mkdir -p "$run"
+cp "$folder"/*.in "$folder"/*.hex "$folder"/*.listing "$run"
+
+# told WHAT STATUS EXPECTED [ARGUMENT]: each host, in the folder of the inputs, says what the file EXPECTED has, and exits with STATUS; commands are on standard input
+told() {
+  local what_for=$1 status=$2 expected=$3 host got
+  shift 3
+  cat >"$out/commands"
+  for host in "${hosts[@]}"; do
+    (cd "$run" && exec "$host" "$@") <"$out/commands" >"$out/told" 2>"$out/errors"
+    got=$?
+    is "$what_for, ${host##*/}: status" "$status" "$got"
+    same "$what_for, ${host##*/}" "$expected" "$out/told"
+    same "$what_for, ${host##*/}: error stream" "${errors:-/dev/null}" "$out/errors"
+  done
+}
+
+# ---- the stored examples
+
+for input in "$folder"/*.in; do
+  told "${input##*/}" 1 "${input%.in}.expected" <"$input"
+done
+told "commands from a file" 1 "$folder/accident-line-lost.expected" accident-line-lost.in </dev/null
+for expected in "$folder"/*.expected; do
+  [ -f "${expected%.expected}.in" ] || fail "$expected has no input beside it"
+done
+(failed=0 && told "a wrong answer" 1 "$folder/day.expected" <"$folder/accident-whole.in" && exit "$failed") >"$out/wrong.log"
+is "a wrong answer is told, once for each host" "${#hosts[@]}" $?
+
+# what came over whole, with its DHCIDs on two lines, is the table that was written
+told "the listing again" 1 "$folder/accident-whole.expected" <"$folder/accident-whole.in"
+same "the old gateway's listing and the new one's" "$run/old.listing" "$run/new.listing"
+# the damaged ones are the whole one without the lines that README.md says
+sed 5d "$folder/carried-whole.listing" >"$out/text"
+same "carried-line-lost.listing" "$out/text" "$folder/carried-line-lost.listing"
+sed 4,6d "$folder/carried-whole.listing" >"$out/text"
+same "carried-entry-lost.listing" "$out/text" "$folder/carried-entry-lost.listing"
+# the DHCIDs that the host shows are all those, and no others, that Python makes
+python3 "$folder/dhcids.py" | sed 's/ / DHCID /' | sort >"$out/made"
+grep -h ' DHCID ' "$folder"/*.expected | grep -v : | sort -u >"$out/shown"
+same "the DHCIDs" "$out/made" "$out/shown"
+
+# ---- damaged messages, and the other refusals of a request: what makes them, and the answer
+
+# message NAME SED: the acid head's message, changed
+message() {
+  sed "$2" "$folder/acid-1.hex" >"$run/$1.hex"
+  ! cmp -s "$folder/acid-1.hex" "$run/$1.hex" || fail "$1.hex is the acid head's own"
+}
+
+message 1-short '/^63 82/d; /^35 01/,/^ff /d'
+message 1-long '/^ff /s/ff/ff 00/'
+head -c 3600 /dev/zero | tr '\0' 0 >>"$run/1-long.hex"
+message 2-reply 's/^01 01 06 00/02 01 06 00/'
+message 3-hlen 's/^01 01 06 00/01 01 11 00/'
+message 4-no-end '/^ff /d'
+message 5-twice '/^35 01 03/s/^/35 01 03 /'
+message 6-overload '/^35 01 03/s/^/34 01 01 /'
+message 7-discover 's/^35 01 03/35 01 01/'
+message 8-identifier '/^3d 07/s/.*/3d 01 00/'
+message 9-no-name '/^51 1c/,/^00$/d'
+message odd '/^ff /s/ff/f/'
+message words '/^ff /s/ff/end/'
+: >"$run/empty.hex"
+# relays around the feed head's message: type 12, 33 bytes of hops and addresses, option 9 with what is inside
+relayed=$(sed 's/;.*//' "$folder/feed-1.hex" | tr -d ' \n')
+for relay in 1 2 3 4 5 6 7 8 9; do
+  relayed=0c$(printf '%066d' 0)0009$(printf '%04x' $((${#relayed} / 2)))$relayed
+  echo "$relayed" >"$run/relays-$relay.hex"
+done
+mkdir "$run/folder.hex"
+sed 's/$/ 192.0.2.31/; s/^/request 4 /' >"$out/text" <<'END'
+1-short.hex
+1-long.hex
+empty.hex
+2-reply.hex
+3-hlen.hex
+4-no-end.hex
+5-twice.hex
+6-overload.hex
+7-discover.hex
+8-identifier.hex
+9-no-name.hex
+odd.hex
+words.hex
+nowhere.hex
+folder.hex
+END
+cat >>"$out/text" <<'END'
+request 6 relays-9.hex 2001:db8:0:3:0:0:0:21
+request 6 relays-8.hex 2001:db8:0:3:0:0:0:21
+request 5 acid-1.hex 192.0.2.31
+request 44 acid-1.hex 192.0.2.31
+request 6 acid-1.hex 192.0.2.31
+request 4 acid-1.hex 2001:db8:0:3:0:0:0:1f
+request 4 acid-1.hex 192.0.2
+request 4 acid-1.hex 192.0.2.31;
+request 4 acid-1.hex 2001:db8::1f
+set site-name
+request 4 acid-1.hex 192.0.2.31
+release 4 9-no-name.hex 192.0.2.31
+show
+END
+lost="no message: look whether the file is there, and has hexadecimal digits in pairs and nothing else"
+none="no address: write four numbers with dots, or eight groups of hexadecimal digits with colons"
+cat >"$out/expected" <<END
+request 4 1-short.hex 192.0.2.31: refused 1: the message is too short or too long to be a request; drop it
+request 4 1-long.hex 192.0.2.31: refused 1: the message is too short or too long to be a request; drop it
+request 4 empty.hex 192.0.2.31: refused 1: the message is too short or too long to be a request; drop it
+request 4 2-reply.hex 192.0.2.31: refused 2: the message is not a DHCPv4 client's; drop it
+request 4 3-hlen.hex 192.0.2.31: refused 3: the hardware address is longer than its field; drop the message
+request 4 4-no-end.hex 192.0.2.31: refused 4: the message's options are damaged; drop it, the client will ask again
+request 4 5-twice.hex 192.0.2.31: refused 5: an option that decides stands twice in the message; drop it
+request 4 6-overload.hex 192.0.2.31: refused 6: the message has options in other fields (option 52); set up the client without that
+request 4 7-discover.hex 192.0.2.31: refused 7: the message does not ask for a name; hand it to whatever serves the others
+request 4 8-identifier.hex 192.0.2.31: refused 8: the message does not say whose it is; give the client an identifier
+request 4 9-no-name.hex 192.0.2.31: refused 9: there is no proper name; set up the client with one, or say \`site NAME\`
+request 4 odd.hex 192.0.2.31: $lost
+request 4 words.hex 192.0.2.31: $lost
+request 4 nowhere.hex 192.0.2.31: $lost
+request 4 folder.hex 192.0.2.31: $lost
+request 6 relays-9.hex 2001:db8:0:3:0:0:0:21: refused 11: more than eight relays passed the message on; look for a loop of relays
+request 6 relays-8.hex 2001:db8:0:3:0:0:0:21: feed-1.bay3.example.net.: answer 0: the name was free and is now this client's
+request 5 acid-1.hex 192.0.2.31: refused 12: there is no such family; say 4 or 6
+request 44 acid-1.hex 192.0.2.31: refused 12: there is no such family; say 4 or 6
+request 6 acid-1.hex 192.0.2.31: refused 7: the message does not ask for a name; hand it to whatever serves the others
+request 4 acid-1.hex 2001:db8:0:3:0:0:0:1f: acid-1.bay3.example.net.: refused 16: the address is of the other family; give one of the message's
+request 4 acid-1.hex 192.0.2: $none
+request 4 acid-1.hex 192.0.2.31;: $none
+request 4 acid-1.hex 2001:db8::1f: $none
+set site-name: set
+request 4 acid-1.hex 192.0.2.31: refused 9: there is no proper name; set up the client with one, or say \`site NAME\`
+release 4 9-no-name.hex 192.0.2.31: refused 9: there is no proper name; set up the client with one, or say \`site NAME\`
+show: records: 2
+feed-1.bay3.example.net. AAAA 2001:0db8:0000:0003:0000:0000:0000:0021
+feed-1.bay3.example.net. DHCID $(python3 "$folder/dhcids.py" | sed -n 's/^feed-1[^ ]* //p')
+END
+told "requests that are refused" 2 "$out/expected" <"$out/text"
+
+# ---- listings
+
+# heads COUNT: so many names with an address
+heads() {
+  awk -v n="$1" 'BEGIN { for (i = 1; i <= n; i++) printf "head-%d.bay3.example.net. A 192.0.2.%d\n", i, i }'
+}
+
+{ echo '; records: 64' && heads 64; } >"$run/full.listing"
+{ echo '; records: 64' && heads 65; } >"$run/over.listing"
+heads 64 >"$run/no-count.listing"
+{ echo '; records: 63 or so' && heads 64; } >"$run/vague.listing"
+{ heads 2 && heads 1; } >"$run/twice.listing"
+head -c 65537 /dev/zero >"$run/long.listing"
+: >"$run/empty.listing"
+for example in 20-unclosed 21-indented 22-lifetime; do
+  cp "examples/listings/$example.listing" "$run"
+done
+cat >"$out/expected" <<END
+load full.listing: records: 64, as many as were written
+request 4 acid-1.hex 192.0.2.31: acid-1.bay3.example.net.: refused 32: a table has room for 64 names; \`clear\` those of devices that are gone
+load over.listing: NOT LOADED: records: 65, but 64 were written; fetch the file again, or say \`load-anyway FILE\`
+load-anyway over.listing: refused 32: a table has room for 64 names; \`clear\` those of devices that are gone
+load twice.listing: refused 35: a name has two records of one type; take out the one that does not hold
+load long.listing: refused 17 at 0, line 1: the file is longer than any listing; look whether it is one
+load 20-unclosed.listing: $(cat examples/listings/20-unclosed.expected), line 3: a byte that is not allowed, or a parenthesis that is no pair; fetch the file again
+load 21-indented.listing: $(cat examples/listings/21-indented.expected), line 3: the entry does not begin with a whole name; fetch the file again, or write the name out
+load 22-lifetime.listing: $(cat examples/listings/22-lifetime.expected), line 3: the type is missing or unknown; fetch the file again, or take the entry out
+load nowhere.listing: cannot be read: look whether the file is there
+load folder.hex: cannot be read: look whether the file is there
+clear head-64.bay3.example.net.: answer 0: the name is free
+request 4 acid-1.hex 192.0.2.31: acid-1.bay3.example.net.: answer 0: the name was free and is now this client's
+request 4 base-1.hex 192.0.2.32: BASE-1.bay3.example.net.: refused 32: a table has room for 64 names; \`clear\` those of devices that are gone
+write full-again.listing: records: 65
+load full-again.listing: records: 65, as many as were written
+write nowhere/full.listing: not written: look whether the folder is there, may be written and has room
+load no-count.listing: records: 64, and the file does not say how many were written
+load vague.listing: records: 64, and the file does not say how many were written
+load empty.listing: records: 0, and the file does not say how many were written
+show: records: 0
+END
+told "listings, and a full table" 2 "$out/expected" < <(sed 's/: .*//' "$out/expected")
+is "what a write leaves beside its file" "" "$(find "$run" -name '*.new')"
+
+# ---- lines that are no commands
+
+wrong="no such command, or not with so many words; README.md has them all"
+improper="no proper name: write labels of letters, digits, hyphens and underscores, each with a dot after it, the last one too"
+{
+  printf '\n; a comment\n \t \nfrobnicate\nrequest 4 acid-1.hex\nload a listing\nshow show show show show show show\nset nothing\n'
+  printf 'site acid-1\nclear a..b.\nclear a.(\nSHOW\n\tshow\t\nsh\0w\nshow\r\n\303\244\n'
+  printf 'clear %0600d\nnew' 0
+} >"$out/text"
+cat >"$out/expected" <<END
+frobnicate: $wrong
+request 4 acid-1.hex: $wrong
+load a listing: $wrong
+show show show show show: $wrong
+set nothing: no such setting: there are client-names, site-name, first-wins and latest-wins
+site acid-1: $improper
+clear a..b.: $improper
+clear a.(: $improper
+SHOW: $wrong
+show: records: 0
+sh?w: $wrong
+show?: $wrong
+??: $wrong
+a line is too long: commands have 510 characters at most
+new: the table is empty
+END
+told "lines that are no commands" 2 "$out/expected" <"$out/text"
+told "no input" 0 /dev/null </dev/null
+echo "usage: host [FILE], with a FILE of commands that can be read, or commands on standard input" >"$out/usage"
+errors=$out/usage told "no file of commands" 2 /dev/null nowhere.in </dev/null
+errors=$out/usage told "two files of commands" 2 /dev/null day.in day.in </dev/null
+echo "host: the commands could not be read to their end, or the answers not be written" >"$out/usage"
+errors=$out/usage told "a folder of commands" 2 /dev/null folder.hex </dev/null
+if [ -e /dev/full ]; then
+  "$out/host" <"$folder/day.in" >/dev/full 2>"$out/errors"
+  is "a full disk: status" 2 $?
+  same "a full disk: error stream" "$out/usage" "$out/errors"
+fi
+finish
