@@ -59,7 +59,7 @@ sed 4,6d "$folder/carried-whole.listing" >"$out/text"
 same "carried-entry-lost.listing" "$out/text" "$folder/carried-entry-lost.listing"
 # the DHCIDs that the host shows are all those, and no others, that Python makes
 python3 "$folder/dhcids.py" | sed 's/ / DHCID /' | sort >"$out/made"
-grep -h ' DHCID ' "$folder"/*.expected | grep -v : | sort -u >"$out/shown"
+grep -h '^[^; ]* DHCID ' "$folder"/*.expected | sort -u >"$out/shown"
 same "the DHCIDs" "$out/made" "$out/shown"
 
 # ---- damaged messages, and the other refusals of a request: what makes them, and the answer
@@ -150,7 +150,7 @@ request 4 acid-1.hex 2001:db8:0:3:0:0:0:1f: acid-1.bay3.example.net.: refused 16
 request 4 acid-1.hex 192.0.2: $none
 request 4 acid-1.hex 192.0.2.31;: $none
 request 4 acid-1.hex 2001:db8::1f: $none
-set site-name: set
+set site-name: done
 request 4 acid-1.hex 192.0.2.31: refused 9: there is no proper name; set up the client with one, or say \`site NAME\`
 release 4 9-no-name.hex 192.0.2.31: refused 9: there is no proper name; set up the client with one, or say \`site NAME\`
 show: records: 2
@@ -212,6 +212,7 @@ improper="no proper name: write labels of letters, digits, hyphens and underscor
   printf 'clear %0600d\nnew' 0
 } >"$out/text"
 cat >"$out/expected" <<END
+; a comment
 frobnicate: $wrong
 request 4 acid-1.hex: $wrong
 load a listing: $wrong
@@ -226,7 +227,7 @@ sh?w: $wrong
 show?: $wrong
 ??: $wrong
 a line is too long: commands have 510 characters at most
-new: the table is empty
+new: done
 END
 told "lines that are no commands" 2 "$out/expected" <"$out/text"
 told "no input" 0 /dev/null </dev/null
@@ -236,7 +237,7 @@ errors=$out/usage told "two files of commands" 2 /dev/null day.in day.in </dev/n
 echo "host: the commands could not be read to their end, or the answers not be written" >"$out/usage"
 errors=$out/usage told "a folder of commands" 2 /dev/null folder.hex </dev/null
 if [ -e /dev/full ]; then
-  "$out/host" <"$folder/day.in" >/dev/full 2>"$out/errors"
+  (cd "$run" && exec "$top/host" day.in) >/dev/full 2>"$out/errors"
   is "a full disk: status" 2 $?
   same "a full disk: error stream" "$out/usage" "$out/errors"
 fi

@@ -10,7 +10,6 @@
 
 #include <ctype.h>
 #include <stdio.h>
-#include <stdlib.h>
 #include <string.h>
 
 enum status { ACCEPTED, REFUSED, TROUBLE };
@@ -193,19 +192,14 @@ static enum status do_clear(struct gateway *g, char **words)
     return len == 0 ? TROUBLE : stepped(vichrelka_table_clear(g->table, sizeof g->table, name, len), CLEARED);
 }
 
-static enum status do_new(struct gateway *g, char **words)
-{
-    (void)words;
-    memset(g->table, 0, sizeof g->table);
-    return say(ACCEPTED, "the table is empty");
-}
-
-/* The site's name, which name a client gets, and who gets a name that another client holds. */
+/* An empty table, the site's name, which name a client gets, and who gets a name that another client holds. */
 static enum status do_set(struct gateway *g, char **words)
 {
     size_t len;
 
-    if (strcmp(words[0], "site") == 0) {
+    if (strcmp(words[0], "new") == 0) {
+        memset(g->table, 0, sizeof g->table);
+    } else if (strcmp(words[0], "site") == 0) {
         if ((len = read_name(words[1], g->site)) == 0)
             return TROUBLE;
         g->site_len = len;
@@ -216,7 +210,7 @@ static enum status do_set(struct gateway *g, char **words)
     } else {
         return say(TROUBLE, "no such setting: there are client-names, site-name, first-wins and latest-wins");
     }
-    return say(ACCEPTED, "set");
+    return say(ACCEPTED, "done");
 }
 
 /*
@@ -257,14 +251,11 @@ static enum status do_write(struct gateway *g, char **words)
 /* The number of records that the first line of a file says, or -1 if it says none. */
 static long records_said(const uint8_t *text, size_t len)
 {
-    char first[32] = "", *end;
+    char first[32] = "", end;
     long records;
 
     memcpy(first, text, len < sizeof first ? len : sizeof first - 1);
-    if (strncmp(first, "; records: ", 11) != 0 || !isdigit((unsigned char)first[11]))
-        return -1;
-    records = strtol(first + 11, &end, 10);
-    return *end == '\n' ? records : -1;
+    return sscanf(first, "; records: %9ld%c", &records, &end) == 2 && end == '\n' ? records : -1;
 }
 
 /* A listing into the table, unless fewer or more records came than were written: an entry that is lost whole, no reader can see. */
@@ -304,18 +295,20 @@ static const struct command {
     int words; /* with the name */
     enum status (*run)(struct gateway *, char **words);
 } COMMANDS[] = {{"request", 4, do_lease}, {"release", 4, do_lease},    {"clear", 2, do_clear}, {"write", 2, do_write}, {"show", 1, do_write},
-                {"load", 2, do_load},     {"load-anyway", 2, do_load}, {"new", 1, do_new},     {"site", 2, do_set},    {"set", 2, do_set}};
+                {"load", 2, do_load},     {"load-anyway", 2, do_load}, {"new", 1, do_set},     {"site", 2, do_set},    {"set", 2, do_set}};
 
-/* One line: nothing for an empty one and a comment, else what was asked and what came of it. */
+/* One line: a comment is said again, to go with the answers; of a command, what was asked and what came of it. */
 static enum status obey(struct gateway *g, char *line)
 {
     char *words[6] = {NULL};
     int count = 0, i;
     size_t c;
 
+    if (line[0] == ';')
+        return say(ACCEPTED, line);
     for (words[0] = strtok(line, " \t"); words[count] != NULL && count < 5; words[count] = strtok(NULL, " \t"))
         count++;
-    if (count == 0 || words[0][0] == ';')
+    if (count == 0)
         return ACCEPTED;
     for (i = 0; i < count; i++)
         printf("%s%s", words[i], i + 1 < count ? " " : ": ");
