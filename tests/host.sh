@@ -194,6 +194,7 @@ request 4 base-1.hex 192.0.2.32: BASE-1.bay3.example.net.: refused 32: a table h
 write full-again.listing: records: 65
 load full-again.listing: records: 65, as many as were written
 write nowhere/full.listing: not written: look whether the folder is there, may be written and has room
+write folder.hex: not written: look whether the folder is there, may be written and has room
 load no-count.listing: records: 64, and the file does not say how many were written
 load vague.listing: records: 64, and the file does not say how many were written
 load empty.listing: records: 0, and the file does not say how many were written

@@ -61,7 +61,7 @@ else
   echo "install: pkg-config: not measured, it is not installed; the flags are those of the .pc file's variables"
   flags=("-I$(sed -n 's/^prefix=//p' "$pc")/include" "-L$(sed -n 's/^prefix=//p' "$pc")/lib" -lvichrelka)
 fi
-is "a flag with the header's folder" "-I$prefix/include" "${flags[0]}"
+is "a flag with the header's folder" "-I$prefix/include" "${flags[0]:-}"
 
 # document 01's example of a written table, 140 bytes
 cat >"$out/example" <<'END'

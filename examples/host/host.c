@@ -350,7 +350,7 @@ int main(int argc, char **argv)
             status = obey(&gateway, line);
         worst = status > worst ? status : worst;
     }
-    if (ferror(in) || fflush(stdout) != 0) {
+    if (ferror(in) || fflush(stdout) != 0 || ferror(stdout)) {
         fprintf(stderr, "host: the commands could not be read to their end, or the answers not be written\n");
         return TROUBLE;
     }
