@@ -1,8 +1,8 @@
 -- The calls that write a table as a listing and that load one: what is answered, and what is left in the bytes that were lent. Document 01, "The table": "Writing", 40 then 13; "Loading", the
--- faults of reading, then 35, then 32; and 13 last for an area that is too short (DESIGN). How many names a table has room for, and the most bytes of a listing, are parameters.
+-- faults of reading, then 35, then 32; and 13 last, for an area that is too short, of which document 01 does not speak (docs/DECISIONS.md). How many names a table has room for, and the most bytes of a listing, are parameters.
 use Prim.Native.Nat.{ℕ, _*_, _≤_, _<_}
 use mathlib.Core.Path.{_≡_}
-use mathlib.Core.List.{List, [], _∷_}
+use mathlib.Core.List.{List, [], _∷_, _++_}
 use lib.ListN.{length}
 use Rattle.base.specs.Bytes.{overlay}
 use Rattle.base.specs.Order.{Test, AllHold, FirstFault}
@@ -26,13 +26,16 @@ pub data Writes (places : ℕ) (b out : List ℕ) (r : Answer) (left : List ℕ)
 
 -- ---- loading
 
--- what has to hold of the records that a listing spells, and of the area, in this order: 35, 32, 13
+-- what has to hold of the records that a listing spells, in this order: 35, 32
+abbrev pub recordTests : ℕ → List ResourceRecord → List Test
+recordTests places rs = record { number = recordRepeated; holds = Single rs } ∷ record { number = tableFull; holds = length (owners rs) ≤ places } ∷ []
+
+-- and then of the area: 13
+abbrev pub areaTests : ℕ → List ℕ → List Test
+areaTests places area = record { number = outputShort; holds = slotSize * places ≤ length area } ∷ []
+
 abbrev pub loadTests : ℕ → List ResourceRecord → List ℕ → List Test
-loadTests places rs area =
-    record { number = recordRepeated; holds = Single rs }
-    ∷ record { number = tableFull; holds = length (owners rs) ≤ places }
-    ∷ record { number = outputShort; holds = slotSize * places ≤ length area }
-    ∷ []
+loadTests places rs area = recordTests places rs ++ areaTests places area
 
 -- the listing t was loaded into an area that held `area` and now holds `left`; r was answered. Nothing is asked of the bytes that the area held
 pub data Loads (limit places : ℕ) (t area : List ℕ) (r : Answer) (left : List ℕ) : Type 0 where

@@ -126,7 +126,7 @@ length-field : (size : ℕ) (o : Option (List ℕ)) → IfSome (λ x. length x �
 length-field size none h = length-replicate {A = ℕ} size 0
 length-field size (some x) h = h
 
-holder-length : (o : Option (List ℕ)) → IfSome (λ x. wellFormed x ≡ true) o → IfSome (λ x. length x ≡ 35) o
+pub holder-length : (o : Option (List ℕ)) → IfSome (λ x. wellFormed x ≡ true) o → IfSome (λ x. length x ≡ 35) o
 holder-length none h = tt
 holder-length (some x) h = dhcid-length x h
 

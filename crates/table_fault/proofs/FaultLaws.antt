@@ -8,9 +8,10 @@ use lib.ListN.{length}
 use Rattle.base.specs.Refusal.{recordRepeated, tableFull}
 use Rattle.grammar.specs.Listing.{ResourceRecord}
 use Rattle.listing.specs.Giving.{end, Gives}
+use Rattle.records.specs.Calls.{recordTests}
 use Rattle.records.specs.Gathered.{Single, owners}
 use Rattle.table.specs.Calls.{Judged}
-use Rattle.table_fault.specs.Sweeping.{Beyond, Sweeps, recordTests, RepeatOrFull}
+use Rattle.table_fault.specs.Sweeping.{Beyond, Sweeps, RepeatOrFull}
 use Rattle.table_fault.specs.declared.Outcome.{Outcome}
 use Rattle.table_fault.specs.declared.Outcome.the-variants as outcome
 

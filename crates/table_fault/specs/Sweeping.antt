@@ -6,7 +6,6 @@ use mathlib.Core.Logic.{_⊎_}
 use mathlib.Core.List.{List, [], _∷_}
 use lib.Dec.{eqb}
 use lib.ListN.{length, getD}
-use Rattle.base.specs.Order.{Test}
 use Rattle.base.specs.Refusal.{recordRepeated, tableFull}
 use Rattle.grammar.specs.Listing.{ResourceRecord}
 use Rattle.entry.specs.Parts.{number}
@@ -83,9 +82,6 @@ abbrev pub endedAt : ℕ → ℕ → Outcome
 endedAt len rest = cond (eqb rest len) outcome.Whole (outcome.Beyond rest)
 
 -- ---- the first fault of the records of a listing: 35, 32
-
-abbrev pub recordTests : ℕ → List ResourceRecord → List Test
-recordTests places rs = record { number = recordRepeated; holds = Single rs } ∷ record { number = tableFull; holds = length (owners rs) ≤ places } ∷ []
 
 -- of records that have too many names anyway
 unfoldable pub RepeatOrFull : List ResourceRecord → ℕ → Type 0

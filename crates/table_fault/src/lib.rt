@@ -16,6 +16,7 @@ ghost use Rattle.base.specs.Logic.{Decides};
 ghost use Rattle.grammar.specs.Listing.{ResourceRecord};
 ghost use Rattle.listing.specs.Giving.{end, Gives};
 ghost use Rattle.name.specs.Name.{canonical};
+ghost use Rattle.records.specs.Calls.{recordTests};
 ghost use Rattle.table.specs.Calls.{Judged};
 ghost use Rattle.table_fault.specs.Sweeping as spec;
 
@@ -196,7 +197,7 @@ fn fault_beyond(text: &[u8], from: usize) -> u32
 // The first fault of the records of a listing that is right: 35, 32; 0 where there is none.
 pub fn fault_of(text: &[u8]) -> u32
     requires { ⌜ spec.Right (now text) 0 ⌝ }
-    ensures { λ r. ⌜ ((rs : List ResourceRecord) → Gives (now (text .entry)) 0 rs end → Judged (spec.recordTests 64 rs) r) ⌝ }
+    ensures { λ r. ⌜ ((rs : List ResourceRecord) → Gives (now (text .entry)) 0 rs end → Judged (recordTests 64 rs) r) ⌝ }
 {
     match sweep(text, 0) {
         Outcome::Repeat => RECORD_REPEATED,

@@ -24,9 +24,9 @@ use Rattle.slots.proofs.TableLaws.{length-table}
 use Rattle.table.specs.Calls.{Judged}
 use Rattle.table.proofs.ArgumentLaws.{all-hold, the-fault}
 use Rattle.records.specs.Gathered.{tableOf}
-use Rattle.records.specs.Calls.{Loads}
+use Rattle.records.specs.Calls.{recordTests, areaTests, Loads}
 use Rattle.records.proofs.SoundLaws.{table-is}
-use Rattle.table_fault.specs.Sweeping.{Right, recordTests}
+use Rattle.table_fault.specs.Sweeping.{Right}
 use Rattle.table_fault.proofs.LookLaws.{given-well-formed}
 use Rattle.table_load.specs.Promise.{Loadable}
 
@@ -53,10 +53,6 @@ module _ (t : List ℕ) where
 
 -- ---- a listing that is right
 
--- what is tested after its records: 13
-abbrev areaTests : List ℕ → List Test
-areaTests area = record { number = outputShort; holds = slotSize * 64 ≤ length area } ∷ []
-
 -- its records rs, of which n is the first fault
 module _ (t : List ℕ) (right : Right t 0) (n : ℕ) (judged : (rs : List ResourceRecord) → Gives t 0 rs end → Judged (recordTests 64 rs) n) where
   records : List ResourceRecord
@@ -76,12 +72,12 @@ module _ (t : List ℕ) (right : Right t 0) (n : ℕ) (judged : (rs : List Resou
   module _ (area : List ℕ) (r : Answer) where
     -- a fault of the records
     pub loads-faulty : (n ≡ 0 → ⊥) → r ≡ the-variants.Refused n 0 → Loads limit 64 t area r area
-    loads-faulty some e = Loads.faulty checked (fault-before (recordTests 64 records) (areaTests area) n (the-fault (recordTests 64 records) n some (judged records given))) e refl
+    loads-faulty some e = Loads.faulty checked (fault-before (recordTests 64 records) (areaTests 64 area) n (the-fault (recordTests 64 records) n some (judged records given))) e refl
 
     -- none, and an area that is too short
     pub loads-short : n ≡ 0 → length area < 19968 → r ≡ the-variants.Refused 13 0 → Loads limit 64 t area r area
     loads-short zero short e =
-        Loads.faulty checked (fault-after (recordTests 64 records) (areaTests area) 13 (all-hold (recordTests 64 records) n zero (judged records given)) (inl (λ long. omega arith, refl))) e refl
+        Loads.faulty checked (fault-after (recordTests 64 records) (areaTests 64 area) 13 (all-hold (recordTests 64 records) n zero (judged records given)) (inl (λ long. omega arith, refl))) e refl
 
   -- none: the records make a table
   module _ (zero : n ≡ 0) where
@@ -99,5 +95,5 @@ module _ (t : List ℕ) (right : Right t 0) (n : ℕ) (judged : (rs : List Resou
         → Loads limit 64 t area (the-variants.Accepted 0) (s ++ drop 19968 area)
     unfolding overlay
     loads-all area s long filled =
-        Loads.loaded checked (hold-both (recordTests 64 records) (areaTests area) all (long, tt)) refl
+        Loads.loaded checked (hold-both (recordTests 64 records) (areaTests 64 area) all (long, tt)) refl
         (λ i. filled records given i ++ drop (sym table-size i) area)

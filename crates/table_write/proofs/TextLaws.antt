@@ -8,8 +8,6 @@ use native.Mathlib.Omega.{arith}
 use lib.ListN.{length, take, drop, length-append}
 use lib.Seq.{take-add}
 use Rattle.base.specs.Logic.{Every, IfSome}
-use Rattle.base.proofs.DhcidLaws.{dhcid-length}
-use Rattle.base.specs.Dhcid.{wellFormed}
 use Rattle.name.specs.Promise.{textOf}
 use Rattle.name.proofs.WireLaws.{proper-short}
 use Rattle.grammar.specs.Listing.{RecordType, ResourceRecord}
@@ -21,6 +19,7 @@ use Rattle.slots.specs.Fields.{inField, there, fieldSize}
 use Rattle.slots.specs.Form.{TableEntry, field, WellFormed}
 use Rattle.slots.specs.declared.Rtype.{Rtype}
 use Rattle.slots.specs.declared.Rtype.the-variants.{A, Aaaa, Dhcid}
+use Rattle.slots.proofs.LaidLaws.{holder-length}
 use Rattle.records.specs.Written.{recordIf, entryRecords, tableRecords, listingOf}
 use Rattle.table_write.specs.Promise.{typeOf, fieldText, entryText}
 
@@ -76,15 +75,11 @@ length-entry e =
     ap length (entry-text e) ∙ length-append (fieldText A e ++ fieldText Aaaa e) (fieldText Dhcid e)
     ∙ ap (λ (n : ℕ). n + length (fieldText Dhcid e)) (length-append (fieldText A e) (fieldText Aaaa e))
 
-holder-size : (o : Option (List ℕ)) → IfSome (λ x. wellFormed x ≡ true) o → IfSome (λ x. length x ≡ 35) o
-holder-size none h = tt
-holder-size (some x) h = dhcid-length x h
-
 field-most : (k : Rtype) (e : TableEntry) → WellFormed e → length (fieldText k e) ≤ longestLine (typeOf k)
 unfolding fieldText
 field-most A e w = line-if-most (e .name) RecordType.A (e .a) (proper-short (e .name) (w .proper)) (w .a)
 field-most Aaaa e w = line-if-most (e .name) RecordType.AAAA (e .aaaa) (proper-short (e .name) (w .proper)) (w .aaaa)
-field-most Dhcid e w = line-if-most (e .name) RecordType.DHCID (e .holder) (proper-short (e .name) (w .proper)) (holder-size (e .holder) (w .dhcid))
+field-most Dhcid e w = line-if-most (e .name) RecordType.DHCID (e .holder) (proper-short (e .name) (w .proper)) (holder-length (e .holder) (w .dhcid))
 
 -- 273, 300 and 310 bytes
 pub entry-most : (e : TableEntry) → WellFormed e → length (entryText e) ≤ 883
