@@ -1,5 +1,5 @@
 -- The call that writes a table (specs/Calls.antt): one answer and one content of the area, what a refusal leaves, and what was written where it was accepted. Assumes nothing.
-use Prim.Native.Nat.{ℕ, _<_}
+use Prim.Native.Nat.{ℕ, _≤_, _<_}
 use mathlib.Core.Path.{_≡_, sym, ap, ap₂, _∙_}
 use mathlib.Core.List.{List}
 use native.Mathlib.Omega.{arith}
@@ -38,6 +38,12 @@ module _ (places : ℕ) (b out : List ℕ) where
     unwritten (Writes.not-sound f a e) h = e
     unwritten (Writes.short s j a e) h = e
     unwritten (Writes.written s j a e) h = absurd (omega (arith, ap number a))
+
+    -- an output that is long enough is written to
+    pub room-accepts : (s : Sound places b) → length (listingOf (s .table)) ≤ length out → Writes places b out r left → number r ≡ 0
+    room-accepts s fits (Writes.not-sound f a e) = absurd (f s)
+    room-accepts s fits (Writes.short k j a e) = absurd (omega (arith, ap length (same-listing k s)))
+    room-accepts s fits (Writes.written k j a e) = ap number a
 
     -- what was answered and written, where it was accepted
     pub was-written : (s : Sound places b) → Writes places b out r left → number r ≡ 0 → (r ≡ Accepted (length (listingOf (s .table)))) × (left ≡ overlay out 0 (listingOf (s .table)))
