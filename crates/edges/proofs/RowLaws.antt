@@ -1,7 +1,6 @@
 -- The rows, computed: functions that are proved to find what the definitions say are run on all of them at once, and a law carries that to each row. Assumes nothing.
 use Prim.Native.Nat.{ℕ}
-use Prim.Native.String.{String}
-use mathlib.Core.Bool.{Bool, true, false, cond, not, _&&_, true≢false}
+use mathlib.Core.Bool.{Bool, true, false, not, _&&_, true≢false}
 use mathlib.Core.Path.{_≡_, refl, sym, ap, subst, _∙_}
 use mathlib.Core.List.{List, [], _∷_, _++_, map, head-eq-of-cons-eq, tail-eq-of-cons-eq}
 use mathlib.Core.Option.{Option, none, some, bind, orElse, Option·some-ne-none}
@@ -18,7 +17,7 @@ use Rattle.name.specs.Promise.{dotted, textOf}
 use Rattle.name.proofs.TextLaws.{lead, shifted, valid}
 use Rattle.name.proofs.WireLaws.{accepts, decided, accepts-proper, proper-first, proper-short}
 use Rattle.text.specs.Digits.{digitValue}
-use Rattle.text.specs.Dhcid.{digit64, base64, joined, SpellsDhcid}
+use Rattle.text.specs.Dhcid.{digit64, base64, joined}
 use Rattle.text.specs.DhcidReading.{value64}
 use Rattle.grammar.specs.Listing.{isVisible, kindOf, mnemonic}
 use Rattle.grammar.specs.Outcome.{Outcome, Checked}

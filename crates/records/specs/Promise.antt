@@ -1,5 +1,4 @@
 -- What the functions below a load promise one another.
-use Prim.Native.Nat.{ℕ}
 use mathlib.Core.List.{List, [], _∷_, _++_}
 use mathlib.Core.Option.{Option, none, some}
 use Rattle.grammar.specs.Listing.{RecordType, ResourceRecord}

@@ -1,8 +1,8 @@
 -- Whether a name stands in a slot before its own. Assumes nothing.
 use Prim.Native.Nat.{ℕ, _+_, _≤_, _<_}
-use mathlib.Core.Bool.{Bool, true, false, true≢false}
+use mathlib.Core.Bool.{true, false, true≢false}
 use mathlib.Core.Path.{_≡_, refl, sym, ap, _∙_}
-use mathlib.Core.List.{List, [], _∷_, head-eq-of-cons-eq}
+use mathlib.Core.List.{List, _∷_, head-eq-of-cons-eq}
 use native.Mathlib.Omega.{arith}
 use lib.ListN.{length, drop, length-drop}
 use Rattle.base.specs.Bytes.{eqBytes}

@@ -5,7 +5,6 @@ use mathlib.Core.List.{List, [], _∷_, _++_, append-assoc, append-nil}
 use native.Mathlib.Omega.{arith}
 use lib.ListN.{length, take, drop, replicate, length-append, replicate-append-replicate}
 use lib.Seq.{take-at, drop-at, drop-drop}
-use Rattle.base.specs.Logic.{Every}
 use Rattle.base.proofs.Bytes.{take-replicate, drop-replicate}
 use Rattle.base.proofs.Lists.{every-middle, every-left}
 use Rattle.slots.specs.Form.{TableEntry, slotBytes, WellFormed, usedSlots, tableBytes, IsTable}

@@ -1,5 +1,5 @@
 -- Names that are kept by the offset of their first entry: how one is found among them. Assumes nothing.
-use Prim.Native.Nat.{ℕ, suc, _+_, _*_, _%_, _^_, _≤_, _<_}
+use Prim.Native.Nat.{ℕ, _+_, _*_, _%_, _^_, _≤_, _<_}
 use mathlib.Core.Bool.{Bool, true, false, cond}
 use mathlib.Core.Path.{_≡_, refl, sym, ap, _∙_}
 use mathlib.Core.Logic.{⊎-elim, inl, inr}
@@ -18,7 +18,7 @@ use Rattle.entry.specs.EntryIs.{held}
 use Rattle.entry.specs.declared.Record.{Record}
 use Rattle.name.specs.Name.{canonical}
 use Rattle.writer.proofs.PlaceLaws.{owner-held}
-use Rattle.table_fault.specs.Sweeping.{hashed, mark, typeBit, KeptName, Kept, NotBefore, IndexOf}
+use Rattle.table_fault.specs.Sweeping.{hashed, mark, typeBit, Kept, NotBefore, IndexOf}
 
 -- one byte more
 pub hashed-more : (n : List ℕ) (h i : ℕ) → i < length n → hashed h (drop i n) ≡ hashed ((h * 31 + getD n i 0) % 2 ^ 32) (drop (i + 1) n)

@@ -1,11 +1,11 @@
 -- What stands next in a listing that is right, with where its name stands among those that are kept. Assumes nothing.
-use Prim.Native.Nat.{ℕ, _≤_}
+use Prim.Native.Nat.{ℕ}
 use mathlib.Core.Bool.{true, false}
 use mathlib.Core.Path.{_≡_, refl, sym, ap, subst, _∙_}
 use mathlib.Core.List.{List, [], _∷_}
 use types.Run.{OneOf}
 use denote.Enum.Declared.{tagOf}
-use lib.ListN.{length, take, drop}
+use lib.ListN.{take, drop}
 use Rattle.base.specs.Logic.{Every}
 use Rattle.grammar.specs.Listing.{ResourceRecord}
 use Rattle.entry.specs.EntryIs.{held}
@@ -19,9 +19,8 @@ use Rattle.listing.specs.Giving.{end, Gives, whole}
 use Rattle.listing.specs.declared.Found.the-variants
 use Rattle.listing.specs.declared.Step.{Step}
 use Rattle.listing.proofs.Found.{the-type}
-use Rattle.listing.proofs.NextLaws.{NextRecord, next-record, none-left}
+use Rattle.listing.proofs.NextLaws.{next-record, none-left}
 use Rattle.table_fault.specs.Sweeping.{mark, typeBit, Right, IndexOf, SeenIs}
-use Rattle.table_fault.specs.declared.Seen.{Seen}
 
 -- every record that is to be given is well formed
 pub given-well-formed : {t : List ℕ} {at : ℕ} {rs : List ResourceRecord} → Gives t at rs end → Every WellFormed rs

@@ -3,24 +3,21 @@ use Prim.Native.Nat.{ℕ, _+_, _/_, _%_, _≤_, _<_}
 use mathlib.Core.Bool.{Bool, true, false, cond, true≢false, false≢true}
 use mathlib.Core.Path.{_≡_, refl, sym, ap, subst, _∙_}
 use mathlib.Core.Logic.{⊎-elim}
-use mathlib.Core.List.{List, [], _∷_, _++_, append-assoc, append-nil}
-use native.Mathlib.Nat.{zero-add, eq-or-lt-of-le}
+use mathlib.Core.List.{List, [], _∷_, _++_, append-nil}
 use native.Mathlib.Omega.{arith}
-use lib.ListN.{length, getD, set, length-set, length-append, List·getD-append}
-use lib.Seq.{getD-set-same, getD-set-other, getD-at, append-snoc}
+use lib.ListN.{length, getD, set}
 use borrow.Author.Tests.{eq-eqb, ne-eqb}
 use Rattle.grammar.specs.Listing.{RecordType, ResourceRecord}
 use Rattle.entry.specs.Parts.{number}
 use Rattle.listing.specs.Giving.{end, Gives}
 use Rattle.records.specs.Gathered.{dataOf, Single, owners}
 use Rattle.records.proofs.DataLaws.{length-data-append, of-is, data-same}
-use Rattle.records.proofs.OwnerLaws.{by-name, among, by-among, owners-none, owners-known, owners-new, owners-distinct, owners-more-by-new, no-data}
-use Rattle.table_fault.specs.Sweeping.{mark, typeBit, KeptName, Kept, IndexOf, SeenIs, Beyond, Sweeps, endedAt}
-use Rattle.table_fault.specs.declared.Outcome.{Outcome}
+use Rattle.records.proofs.OwnerLaws.{among, by-among, owners-none, owners-more-by-new, no-data}
+use Rattle.table_fault.specs.Sweeping.{mark, typeBit, Kept, IndexOf, SeenIs, Beyond, Sweeps, endedAt}
 use Rattle.table_fault.specs.declared.Outcome.the-variants as outcome
 use Rattle.table_fault.specs.declared.Seen.{Seen}
-use Rattle.table_fault.proofs.IndexLaws.{at-among, among-at, nowhere-among, distinct-at}
-use Rattle.table_fault.proofs.TypeLaws.{many, Flagged, flagged-each, flagged-none, flagged-more, flagged-other, flagged-twice}
+use Rattle.table_fault.proofs.IndexLaws.{among-at, nowhere-among}
+use Rattle.table_fault.proofs.TypeLaws.{many, Flagged, flagged-each, flagged-twice}
 
 -- ---- the record that stands next
 

@@ -14,7 +14,7 @@ use Rattle.grammar.specs.Listing.{RecordType, ResourceRecord}
 use Rattle.entry.specs.Parts.{number}
 use Rattle.listing.specs.Giving.{end, Gives}
 use Rattle.records.specs.Gathered.{dataOf, owners}
-use Rattle.records.proofs.OwnerLaws.{by-name, among, owners-known, owners-new, owners-distinct, no-data}
+use Rattle.records.proofs.OwnerLaws.{among, owners-known, owners-new, owners-distinct, no-data}
 use Rattle.table_fault.specs.Sweeping.{mark, typeBit, KeptName, Kept}
 use Rattle.table_fault.specs.declared.Seen.{Seen}
 use Rattle.table_fault.proofs.IndexLaws.{at-among, distinct-at}

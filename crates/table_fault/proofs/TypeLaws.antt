@@ -1,13 +1,13 @@
 -- Which types of record a name has, as flags. Assumes nothing.
 use Prim.Native.Nat.{ℕ, _+_, _*_, _/_, _%_, _≤_}
-use mathlib.Core.Path.{_≡_, refl, sym, ap, subst, _∙_}
+use mathlib.Core.Path.{_≡_, refl, sym, ap, _∙_}
 use mathlib.Core.List.{List, [], _∷_, _++_}
 use native.Mathlib.Omega.{arith}
 use lib.ListN.{length}
 use Rattle.grammar.specs.Listing.{RecordType, ResourceRecord}
 use Rattle.entry.specs.Parts.{number}
-use Rattle.records.specs.Gathered.{isOf, dataOf}
-use Rattle.records.proofs.DataLaws.{of-is, other-owner, other-type, length-data-append, data-one, data-not-one, one-type}
+use Rattle.records.specs.Gathered.{dataOf}
+use Rattle.records.proofs.DataLaws.{of-is, other-owner, other-type, length-data-append, data-one, data-not-one}
 use Rattle.table_fault.specs.Sweeping.{typeBit}
 
 -- how many records of a type a name has

@@ -1,14 +1,13 @@
 -- What a load answers and leaves, by what was found of the listing, of its records and of the area. Assumes nothing.
-use Prim.Native.Nat.{ℕ, _+_, _*_, _≤_, _<_}
+use Prim.Native.Nat.{ℕ, _+_, _≤_, _<_}
 use mathlib.Core.Bool.{Bool, true, false, true≢false}
 use mathlib.Core.Path.{_≡_, refl, sym, ap}
 use mathlib.Core.Logic.{inl}
-use mathlib.Core.List.{List, [], _∷_, _++_}
+use mathlib.Core.List.{List, _++_}
 use native.Mathlib.Omega.{arith}
 use lib.ListN.{length, drop}
 use Rattle.base.specs.Bytes.{overlay}
-use Rattle.base.specs.Order.{Test, AllHold}
-use Rattle.base.specs.Refusal.{outputShort}
+use Rattle.base.specs.Order.{AllHold}
 use Rattle.base.specs.declared.Answer.{Answer}
 use Rattle.base.specs.declared.Answer.the-variants
 use Rattle.base.proofs.OrderLaws.{fault-before, fault-after, hold-both}
@@ -19,7 +18,7 @@ use Rattle.grammar.proofs.ReaderLaws.{checks}
 use Rattle.listing.specs.Reading.{limit, counted}
 use Rattle.listing.specs.Giving.{end, Gives, whole}
 use Rattle.listing.proofs.Theorems.{accepted-only}
-use Rattle.slots.specs.Form.{slotSize, tableBytes}
+use Rattle.slots.specs.Form.{tableBytes}
 use Rattle.slots.proofs.TableLaws.{length-table}
 use Rattle.table.specs.Calls.{Judged}
 use Rattle.table.proofs.ArgumentLaws.{all-hold, the-fault}

@@ -1,6 +1,5 @@
 use Prim.Native.Nat.{_-_, _≤_}
-use native.Mathlib.Omega.{arith}
-use lib.ListN.{length, length-take}
+use lib.ListN.{length}
 use borrow.Author.Needs.{needs}
 use Rattle.loads.proofs.run_all.Statement.{statement}
 use Rattle.loads.proofs.run_all.Tie as tie

@@ -2,7 +2,6 @@ use Prim.Native.Nat.{_-_}
 use mathlib.Core.Path.{sym, _∙_}
 use native.Mathlib.Omega.{arith}
 use lib.ListN.{length, drop-of-length-le}
-use borrow.Author.Needs.{needs}
 use Rattle.base.proofs.Tests.{yes-by, no-by}
 use Rattle.slots.proofs.SameLaws.{Onward, onward-none, onward-differs, onward-more}
 use Rattle.slots.proofs.field.same_from.Statement.{statement}
