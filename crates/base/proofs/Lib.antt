@@ -1,6 +1,7 @@
 pub mod Bytes
 pub mod Fill
 pub mod Lists
+pub mod Chunks
 pub mod Tests
 pub mod SetLaws
 pub mod Theorems

@@ -11,7 +11,7 @@ use Rattle.base.proofs.Tests.{below, at-each}
 abbrev pub same : Bool → Bool → Bool
 same a b = cond a b (not b)
 
-same-is : (a b : Bool) → same a b ≡ true → a ≡ b
+pub same-is : (a b : Bool) → same a b ≡ true → a ≡ b
 same-is true true e = refl
 same-is true false e = sym e
 same-is false true e = e

@@ -1,13 +1,12 @@
 -- The kind of a byte from what is known of the byte. Assumes nothing.
 use Prim.Native.Nat.{ℕ, _≤_, _<_}
-use mathlib.Core.Bool.{Bool, true, false, cond, _&&_, _||_}
-use mathlib.Core.Path.{_≡_, refl, sym, ap}
+use mathlib.Core.Bool.{Bool, true, false, cond, not, _&&_, _||_}
+use mathlib.Core.Path.{_≡_, refl, sym, ap, _∙_}
 use native.Mathlib.Omega.{arith}
 use lib.Dec.{leb, eqb}
-use borrow.Author.Tests.{ne-eqb, eqb-true, eqb-false, leb-true, leb-false}
-use Rattle.base.specs.Ascii.{isIn}
-use Rattle.base.proofs.SetLaws.{same, set-of}
-use Rattle.base.proofs.Tests.{below, within, under, over}
+use borrow.Author.Tests.{ne-eqb, eqb-true, eqb-false, leb-true, leb-false, lt-leb}
+use Rattle.base.proofs.SetLaws.{same, same-is}
+use Rattle.base.proofs.Tests.{below, at-each, by-ltb, within, under, over}
 use Rattle.grammar.specs.Listing.{blank, lineEnd, opening, closing, semicolon, wordByte, notAllowed, isVisible, kindOf, isWordKind, isCommentKind, isWordByte, isCommentByte}
 
 -- a byte that none of the single ones is: a word's, or not allowed
@@ -66,10 +65,19 @@ module _ (b : ℕ) where
       go false el h eh false et s es false en =
           let low : b < 32 = leb-false 32 b el in sym (ap isCommentKind (low-kind (omega arith) (eqb-false b 9 et) (λ x. omega arith) (eqb-false b 10 en)))
 
--- the bytes of words as a set
-each-below : below (λ b. same (isIn 0xf7fffcfe00000000 0x7fffffffffffffff b) (isWordByte b)) 128 ≡ true
-unfolding below isIn isVisible kindOf
+-- a word's byte by comparisons: computed below 128, and above there is none
+abbrev wordTest : ℕ → Bool
+wordTest b = leb 33 b && leb b 126 && not (eqb b 40) && not (eqb b 41) && not (eqb b 59)
+
+each-below : below (λ b. same (wordTest b) (isWordByte b)) 128 ≡ true
+unfolding below isVisible kindOf
 each-below = refl
 
-pub word-set : (b : ℕ) → isIn 0xf7fffcfe00000000 0x7fffffffffffffff b ≡ isWordByte b
-word-set b = set-of 0xf7fffcfe00000000 0x7fffffffffffffff isWordByte each-below (λ b h. ap isWordKind (high-kind b (omega arith))) b
+pub word-test : (b : ℕ) → wordTest b ≡ isWordByte b
+word-test b =
+    by-ltb b 128 (λ lt. same-is (wordTest b) (isWordByte b) (at-each (λ k. same (wordTest k) (isWordByte k)) 128 each-below b lt))
+    (λ high. go (leb 33 b) (lt-leb b 126 (omega arith)) ∙ sym (ap isWordKind (high-kind b (omega arith))))
+  where
+    go : (low : Bool) → leb b 126 ≡ false → (low && leb b 126 && not (eqb b 40) && not (eqb b 41) && not (eqb b 59)) ≡ false
+    go true e = rw e refl
+    go false e = refl

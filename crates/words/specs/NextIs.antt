@@ -5,6 +5,7 @@ use mathlib.Core.Bool.{Bool, true, false}
 use mathlib.Core.Path.{_≡_}
 use mathlib.Core.List.{List, [], _∷_}
 use lib.ListN.{length, take, drop}
+use Rattle.base.specs.Logic.{Every}
 use Rattle.grammar.specs.Listing.{Kind, LongestRun, Depth, outside, inside}
 use Rattle.grammar.specs.Listing
 use Rattle.grammar.proofs.Scan.{plain, atEnd, atLine, atFault, scan}
@@ -26,6 +27,12 @@ kindMeant NotAllowed = Listing.notAllowed
 abbrev pub depthOf : Bool → Depth
 depthOf true = inside
 depthOf false = outside
+
+-- the bytes of t from at up to end all pass the test p
+pub record PassTo (p : ℕ → Bool) (t : List ℕ) (at end : ℕ) : Type 0 where
+  pub from : at ≤ end
+  pub within : end ≤ length t
+  pub each : Every (λ b. p b ≡ true) (take (end - at) (drop at t))
 
 -- the bytes of t from at up to end are the longest run of bytes that pass the test p
 pub record RunTo (p : ℕ → Bool) (t : List ℕ) (at end : ℕ) : Type 0 where

@@ -1,11 +1,12 @@
 // The words of a listing's entry, one at a time, and how the entry ends. A loop passes one piece at each turn, and the runs of a word and of a
 // comment are loops of their own, so each byte is looked at twice at most.
-use base::ascii::is_in;
 ghost use mathlib.Core.Path.{_≡_};
-ghost use Prim.Native.Nat.{_≤_};
-ghost use lib.ListN.{length};
+ghost use Prim.Native.Nat.{_+_, _≤_};
+ghost use mathlib.Core.Bool.{true};
+ghost use lib.ListN.{length, take, drop};
+ghost use Rattle.base.specs.Logic.{Every, Decides};
 ghost use Rattle.grammar.specs.Listing.{kindOf, isWordByte, isCommentByte};
-ghost use Rattle.words.specs.NextIs.{kindMeant, RunTo, NextIs};
+ghost use Rattle.words.specs.NextIs.{kindMeant, PassTo, RunTo, NextIs};
 
 // What a byte is where no comment is open.
 pub enum ByteKind {
@@ -32,15 +33,11 @@ pub fn kind_of(b: u8) -> ByteKind
     }
 }
 
-// The bytes of words as a set, 33 to 126 but for ( ) and ;
-const WORD_LOW: u64 = 0xf7fffcfe00000000;
-
-const WORD_HIGH: u64 = 0x7fffffffffffffff;
-
+// By comparisons, which are taken for many bytes at once.
 pub fn is_word_byte(b: u8) -> bool
     ensures { λ r. ⌜ r ≡ isWordByte b ⌝ }
 {
-    is_in(WORD_LOW, WORD_HIGH, b)
+    (33 <= b) & (b <= 126) & (b != b'(') & (b != b')') & (b != b';')
 }
 
 // May a comment hold it?
@@ -50,12 +47,44 @@ fn is_comment_byte(b: u8) -> bool
     ((32 <= b) & (b <= 126)) | (b == b'\t')
 }
 
+// How many bytes of a word are looked at together.
+const CHUNK: usize = 32;
+
+// Are the bytes of the chunk from `at` on all a word's? With no way out before the last, so that they are taken at once.
+fn is_word_chunk(text: &[u8], at: usize) -> bool
+    requires { ⌜ at + 32 ≤ length (now text) ⌝ }
+    ensures { λ r. ⌜ Decides r (Every (λ b. isWordByte b ≡ true) (take 32 (drop at (now (text .entry))))) ⌝ }
+{
+    let mut all = true;
+    let mut i: usize = 0;
+    while i < CHUNK {
+        all = all & is_word_byte(text[at + i]);
+        i += 1;
+    }
+    all
+}
+
+// Past the whole chunks of a word from `at` on.
+fn past_chunks(text: &[u8], at: usize) -> usize
+    requires { ⌜ at ≤ length (now text) ⌝ }
+    ensures { λ r. ⌜ PassTo isWordByte (now (text .entry)) at r ⌝ }
+{
+    let mut i = at;
+    while CHUNK <= text.len() - i {
+        if !is_word_chunk(text, i) {
+            return i;
+        }
+        i += CHUNK;
+    }
+    i
+}
+
 // Where the longest run of word bytes from `at` on ends.
 fn word_end(text: &[u8], at: usize) -> usize
     requires { ⌜ at ≤ length (now text) ⌝ }
     ensures { λ r. ⌜ RunTo isWordByte (now (text .entry)) at r ⌝ }
 {
-    let mut i = at;
+    let mut i = past_chunks(text, at);
     while i < text.len() {
         if !is_word_byte(text[i]) {
             return i;
