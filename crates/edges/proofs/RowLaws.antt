@@ -17,8 +17,8 @@ use Rattle.name.specs.Promise.{dotted, textOf}
 use Rattle.name.proofs.TextLaws.{lead, shifted, valid}
 use Rattle.name.proofs.WireLaws.{accepts, decided, accepts-proper, proper-first, proper-short}
 use Rattle.text.specs.Digits.{digitValue}
-use Rattle.text.specs.Dhcid.{digit64, base64, joined}
-use Rattle.text.specs.DhcidReading.{value64}
+use Rattle.dhcid_text.specs.Dhcid.{digit64, base64, joined}
+use Rattle.dhcid_text.specs.DhcidReading.{value64}
 use Rattle.grammar.specs.Listing.{isVisible, kindOf, mnemonic}
 use Rattle.grammar.specs.Outcome.{Outcome, Checked}
 use Rattle.grammar.proofs.AddressReader.{fieldsOf, numbersOf, aOf, aaaaOf}

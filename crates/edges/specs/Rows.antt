@@ -10,7 +10,7 @@ use Rattle.base.specs.Bytes.{ascii}
 use Rattle.base.specs.Logic.{Every}
 use Rattle.name.specs.Name.{wire, text, Proper, canonical}
 use Rattle.name.specs.Promise.{textOf}
-use Rattle.text.specs.Dhcid.{SpellsDhcid}
+use Rattle.dhcid_text.specs.Dhcid.{SpellsDhcid}
 use Rattle.grammar.specs.Outcome.{Outcome, accepted, refused, Checked}
 use Rattle.message.specs.Message4.{Reads4}
 use Rattle.message.specs.Request.{identifierBytes}

@@ -1,4 +1,4 @@
--- The data of a record, by what the readers of `text` say of words. Assumes nothing.
+-- The data of a record, by what the readers of `address` and `dhcid_text` say of words. Assumes nothing.
 use Prim.Native.Nat.{ℕ, _-_, _≤_}
 use mathlib.Core.Bool.{Bool, true, false, cond}
 use mathlib.Core.Path.{_≡_, refl, sym, ap, subst, _∙_}
@@ -10,11 +10,11 @@ use native.Mathlib.Nat.{add-sub-of-le}
 use lib.ListN.{length, take, drop, replicate, length-replicate, replicate-append-replicate}
 use borrow.Author.Tests.{eq-eqb, ne-eqb}
 use Rattle.text.specs.Reading.{Answers}
-use Rattle.text.specs.Address.{SpellsA, SpellsAAAA}
-use Rattle.text.specs.Dhcid.{SpellsDhcid}
-use Rattle.text.specs.DhcidReading.{zeroFilled, After}
-use Rattle.text.specs.declared.dhcid.DhcidWords.{DhcidWords}
-use Rattle.text.proofs.DhcidLaws.{all-stored}
+use Rattle.address.specs.Address.{SpellsA, SpellsAAAA}
+use Rattle.dhcid_text.specs.Dhcid.{SpellsDhcid}
+use Rattle.dhcid_text.specs.DhcidReading.{zeroFilled, After}
+use Rattle.dhcid_text.specs.declared.DhcidWords.{DhcidWords}
+use Rattle.dhcid_text.proofs.DhcidLaws.{all-stored}
 use Rattle.grammar.proofs.Deciding.{Reads, none-found}
 use Rattle.grammar.proofs.Scan.{plain, scan}
 use Rattle.grammar.proofs.AddressReader.{aOf, aaaaOf, a-reads, aaaa-reads}

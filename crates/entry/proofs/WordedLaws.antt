@@ -8,7 +8,7 @@ use native.Mathlib.Omega.{arith}
 use lib.ListN.{length, take, drop}
 use Rattle.base.specs.Refusal.{entryOwner, entryType, entryData, entryShape}
 use Rattle.name.specs.Name.{padded}
-use Rattle.text.specs.DhcidReading.{zeroFilled}
+use Rattle.dhcid_text.specs.DhcidReading.{zeroFilled}
 use Rattle.grammar.specs.Listing.{isWordByte, begins, RecordType, ResourceRecord}
 use Rattle.grammar.proofs.Scan.{plain, atEnd, atFault, Laid, scan}
 use Rattle.grammar.proofs.OwnerReader.{ownerOf}

@@ -6,7 +6,7 @@ use mathlib.Core.List.{List, []}
 use lib.ListN.{length, drop}
 use Rattle.base.specs.Refusal.{entryShape}
 use Rattle.name.specs.Name.{padded}
-use Rattle.text.specs.DhcidReading.{zeroFilled}
+use Rattle.dhcid_text.specs.DhcidReading.{zeroFilled}
 use Rattle.grammar.specs.Listing.{ResourceRecord}
 use Rattle.grammar.proofs.Scan.{plain, Ending, atEnd, atLine, atFault, scan}
 use Rattle.grammar.proofs.Reader.{wrong, after, shifted, read}

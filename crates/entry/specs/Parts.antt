@@ -7,7 +7,7 @@ use mathlib.Core.List.{List, [], _∷_}
 use mathlib.Core.Option.{Option, none, some}
 use lib.Dec.{eqb}
 use lib.ListN.{length, drop}
-use Rattle.text.specs.DhcidReading.{zeroFilled}
+use Rattle.dhcid_text.specs.DhcidReading.{zeroFilled}
 use Rattle.grammar.specs.Listing.{RecordType}
 use Rattle.grammar.proofs.Scan.{plain, scan}
 use Rattle.grammar.proofs.AddressReader.{aOf, aaaaOf}

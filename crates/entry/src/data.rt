@@ -1,16 +1,16 @@
 // The data of a record in an entry's last words.
 use crate::TYPE_A;
 use crate::TYPE_DHCID;
+use address::read_a;
+use address::read_aaaa;
 use base::slice::put;
-use text::address::read_a;
-use text::address::read_aaaa;
-use text::dhcid::DhcidWords;
+use dhcid_text::DhcidWords;
 use words::Next;
 use words::next_word;
 ghost use mathlib.Core.Path.{_≡_};
 ghost use Prim.Native.Nat.{_≤_};
 ghost use lib.ListN.{length};
-ghost use Rattle.text.specs.DhcidReading.{zeroFilled};
+ghost use Rattle.dhcid_text.specs.DhcidReading.{zeroFilled};
 ghost use Rattle.grammar.proofs.DhcidReader.{dhcidOf};
 ghost use Rattle.entry.specs.Parts as spec;
 

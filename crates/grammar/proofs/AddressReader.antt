@@ -11,19 +11,13 @@ use lib.ListN.{length}
 use borrow.Author.Tests.{lt-ltb, ltb-true, le-leb, leb-true, eq-eqb, ne-eqb, eqb-true, eqb-false}
 use Rattle.base.specs.Bytes.{inBytes}
 use Rattle.base.proofs.Tests.{and-left, and-right}
-use Rattle.text.specs.Address.{SpellsA, SpellsAAAA}
+use Rattle.address.specs.Address.{SpellsA, SpellsAAAA}
 use Rattle.text.specs.Digits.{digitValue}
 use Rattle.text.specs.Field.{Fields, Usable, Allowed}
-use Rattle.text.proofs.AddressLaws.{octets, groups, octets-usable, groups-usable, a-fields, fields-a, aaaa-fields, fields-aaaa}
+use Rattle.text.specs.declared.field.Form.{Form}
+use Rattle.address.proofs.AddressLaws.{octets, groups, octets-usable, groups-usable, a-fields, fields-a, aaaa-fields, fields-aaaa}
 use Rattle.text.proofs.FieldLaws.{From, fields-from, from-is-fields}
 use Rattle.grammar.proofs.Deciding.{Reads, provided, provided-is}
-
--- the type of text's forms, which has no name outside text
-abbrev typeOf : {A : Type 0} → A → Type 0
-typeOf {A} a = A
-
-abbrev pub Form : Type 0
-Form = typeOf octets
 
 -- the test of a leading zero: none in a number of more than one digit, unless the form has such
 no-lead : (v n : ℕ) (zeros : Bool) → (zeros ≡ false → 1 ≤ n → 1 ≤ v) → (zeros || eqb n 0 || leb 1 v) ≡ true

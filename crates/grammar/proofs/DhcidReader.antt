@@ -16,12 +16,12 @@ use Rattle.base.specs.Bytes.{eqBytes}
 use Rattle.base.specs.Dhcid.{wellFormed}
 use Rattle.base.specs.Logic.{Every, Pairwise}
 use Rattle.text.specs.Digits.{digitValue}
-use Rattle.text.specs.Dhcid.{digit64, base64, joined, HexByte, Generic, SpellsDhcid}
-use Rattle.text.specs.DhcidReading.{value64, marker, thirtyFive}
-use Rattle.text.proofs.Base64Laws.{value-digit}
-use Rattle.text.proofs.HexLaws.{hex-byte, digits-pairs, same-pairs}
-use Rattle.text.proofs.DhcidWordLaws.{length-dhcid}
-use Rattle.text.proofs.Theorems.{forms-apart}
+use Rattle.dhcid_text.specs.Dhcid.{digit64, base64, joined, HexByte, Generic, SpellsDhcid}
+use Rattle.dhcid_text.specs.DhcidReading.{value64, marker, thirtyFive}
+use Rattle.dhcid_text.proofs.Base64Laws.{value-digit}
+use Rattle.dhcid_text.proofs.HexLaws.{hex-byte, digits-pairs, same-pairs}
+use Rattle.dhcid_text.proofs.DhcidWordLaws.{length-dhcid}
+use Rattle.dhcid_text.proofs.Theorems.{forms-apart}
 use Rattle.grammar.proofs.Deciding.{Reads, provided, provided-by, provided-is, all, all-true, every-all}
 
 -- ---- what either form asks of the bytes

@@ -9,8 +9,8 @@ use Rattle.name.specs.Label.{isUpper, isLower, isDigit, isLabelByte, lower}
 use Rattle.name.specs.Name.{wire}
 use Rattle.name.proofs.TextLaws.{lead, shifted, valid}
 use Rattle.text.specs.Digits.{digitValue}
-use Rattle.text.specs.Dhcid.{digit64, base64, joined}
-use Rattle.text.specs.DhcidReading.{value64}
+use Rattle.dhcid_text.specs.Dhcid.{digit64, base64, joined}
+use Rattle.dhcid_text.specs.DhcidReading.{value64}
 use Rattle.grammar.specs.Listing.{isVisible, kindOf, mnemonic}
 use Rattle.grammar.specs.Outcome.{Outcome, Answered}
 use Rattle.grammar.specs.Examples.{Row, of, anA, tank, client, clientDhcid, rows, Hold}

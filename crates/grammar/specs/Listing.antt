@@ -12,8 +12,8 @@ use Rattle.base.specs.Logic.{Every}
 use Rattle.name.specs.Label.{lower}
 use Rattle.name.specs.Name
 use Rattle.name.specs.Name.{canonical}
-use Rattle.text.specs.Address.{SpellsA, SpellsAAAA}
-use Rattle.text.specs.Dhcid.{SpellsDhcid}
+use Rattle.address.specs.Address.{SpellsA, SpellsAAAA}
+use Rattle.dhcid_text.specs.Dhcid.{SpellsDhcid}
 
 -- ---- bytes
 

@@ -1,6 +1,6 @@
 -- The definition of base64, computed: it gives RFC 4648's test vectors. Assumes nothing.
 use mathlib.Core.Path.{refl}
-use Rattle.text.specs.Dhcid.{digit64, base64}
+use Rattle.dhcid_text.specs.Dhcid.{digit64, base64}
 use Rattle.spellings.specs.Vectors.{vectors, Hold}
 
 pub vectors-hold : Hold vectors

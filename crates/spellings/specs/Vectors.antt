@@ -2,7 +2,7 @@
 use Prim.Native.Nat.{ℕ}
 use mathlib.Core.Path.{_≡_}
 use mathlib.Core.List.{List, [], _∷_}
-use Rattle.text.specs.Dhcid.{base64}
+use Rattle.dhcid_text.specs.Dhcid.{base64}
 
 -- bytes and their text
 pub record Vector : Type 0 where
@@ -20,7 +20,7 @@ vectors =
     ∷ record { bytes = 102 ∷ 111 ∷ 111 ∷ 98 ∷ 97 ∷ 114 ∷ []; text = 90 ∷ 109 ∷ 57 ∷ 118 ∷ 89 ∷ 109 ∷ 70 ∷ 121 ∷ [] }
     ∷ []
 
--- the bytes of each row have the text beside them, by the definition in `text`
+-- the bytes of each row have the text beside them, by the definition in `dhcid_text`
 unfoldable pub Hold : List Vector → Type 0
 Hold [] = Unit {0}
 Hold (v ∷ vs) = (base64 (v .bytes) ≡ v .text) × Hold vs

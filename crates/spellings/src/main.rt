@@ -3,15 +3,15 @@
 // Python's base64, addresses by Python's ipaddress, and "no" by document 01's rules. RFC 4701 in print has its base64 right. Its French translation does not:
 // example 1 has I for l before OjxfN, which spells another DHCID (a line here), example 2 has I for l in UDlW, and example 3 a letter too many in VytcKD.
 // The RFC's generic forms are printed in words of 57 and 13 digits, which RFC 3597 does not allow (a line here).
+use address::a_length;
+use address::put_a;
+use address::put_aaaa;
+use address::read_a;
+use address::read_aaaa;
+use dhcid_text::DhcidWords;
+use dhcid_text::ReadDhcid;
+use dhcid_text::put_base64;
 use libc::STDOUT_FILENO;
-use text::address::a_length;
-use text::address::put_a;
-use text::address::put_aaaa;
-use text::address::read_a;
-use text::address::read_aaaa;
-use text::dhcid::DhcidWords;
-use text::dhcid::ReadDhcid;
-use text::dhcid::put_base64;
 ghost use Prim.Native.Nat.{_≤_};
 ghost use lib.ListN.{length};
 

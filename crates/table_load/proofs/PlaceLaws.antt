@@ -9,7 +9,7 @@ use lib.Seq.{take-at}
 use Rattle.base.proofs.DhcidLaws.{dhcid-length}
 use Rattle.name.specs.Name.{canonical}
 use Rattle.name.proofs.WireLaws.{proper-short}
-use Rattle.text.specs.DhcidReading.{zeroFilled}
+use Rattle.dhcid_text.specs.DhcidReading.{zeroFilled}
 use Rattle.grammar.specs.Listing.{RecordType, ResourceRecord}
 use Rattle.entry.specs.Parts.{number}
 use Rattle.entry.specs.EntryIs.{held}

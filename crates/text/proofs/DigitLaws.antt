@@ -4,7 +4,7 @@ use mathlib.Core.Bool.{Bool, true, false, cond, _&&_}
 use mathlib.Core.Path.{_≡_, refl, sym, ap, subst, _∙_}
 use mathlib.Core.List.{List, [], _∷_, _++_, append-assoc, append-nil}
 use native.Mathlib.Decide.{decLt}
-use native.Mathlib.Nat.{pow-suc}
+use native.Mathlib.Nat.{pow-suc, mul-assoc, mul-le-mul-right, mul-one, pow-succ', lt-of-lt-of-le}
 use native.Mathlib.Omega.{arith}
 use lib.Dec.{leb}
 use lib.ListN.{length, getD, length-append, List·getD-append}
@@ -171,3 +171,14 @@ decimal-only k (x ∷ p) n h shortest short =
     let j : ℕ = k - length (x ∷ p) in
     let all : suc j + length p ≡ k = omega arith in
     decimal-from j x p (h .digits) shortest (digitValue x) refl ∙ (λ i. decimal (all i) (h .number i))
+
+-- ---- a number of k hexadecimal digits is below 16 ^ k
+
+pub below-power : (v : ℕ) (p : List ℕ) → Every (λ x. digitValue x < 16) p → value 16 v p < (v + 1) * 16 ^ length p
+unfolding value
+below-power v [] h = omega (arith, mul-one (v + 1))
+below-power v (x ∷ p) (Every.more hx h) =
+    let first : v * 16 + digitValue x + 1 ≤ (v + 1) * 16 = omega arith in
+    let power : (v + 1) * 16 * 16 ^ length p ≡ (v + 1) * 16 ^ suc (length p) = mul-assoc (v + 1) 16 (16 ^ length p) ∙ ap (λ (k : ℕ). (v + 1) * k) (sym (pow-succ' 16 (length p))) in
+    subst (λ (k : ℕ). value 16 (v * 16 + digitValue x) p < k) power
+    (lt-of-lt-of-le (below-power (v * 16 + digitValue x) p h) (mul-le-mul-right (16 ^ length p) first))

@@ -226,3 +226,7 @@ module _ (f : Form) (usable : Usable f) where
       let s = at-separator e k .1 in
       ap (λ (l : List ℕ). v ∷ l) (from-one h (s .2)) ∙ sym (s .1)
   from-one (digit ne a h) k = from-one h (at-digit ne k .1)
+
+  -- and so a word is one list of numbers only
+  pub fields-one : (w ns ms : List ℕ) → Fields f w ns → Fields f w ms → ns ≡ ms
+  fields-one w ns ms h k = from-one (fields-from w ns h) (fields-from w ms k)

@@ -1,11 +1,4 @@
 pub mod DigitLaws
 pub mod FieldLaws
 pub mod ScanLaws
-pub mod AddressLaws
 pub mod PartLaws
-pub mod WrittenLaws
-pub mod Base64Laws
-pub mod HexLaws
-pub mod DhcidLaws
-pub mod DhcidWordLaws
-pub mod Theorems

@@ -1,8 +1,8 @@
 -- The loop that reads numbers with a separator, over FieldLaws.antt. Assumes nothing.
 use Prim.Native.Nat.{ℕ, suc, _+_, _-_, _*_, _≤_, _<_}
-use mathlib.Core.Bool.{true, false}
+use mathlib.Core.Bool.{true, false, true≢false}
 use mathlib.Core.Path.{_≡_, refl, sym, ap, subst, _∙_}
-use mathlib.Core.Logic.{_⊎_, inr}
+use mathlib.Core.Logic.{_⊎_, inr, ⊎-elim}
 use mathlib.Core.List.{List, [], _∷_, _++_, append-assoc}
 use native.Mathlib.Numerals.{add-one}
 use native.Mathlib.Omega.{arith}
@@ -156,3 +156,12 @@ module _ (f : Form) (usable : Usable f) (w : List ℕ) where
                 (ap (λ (j : ℕ). drop j values) (sym (add-one k)) ∙ drop-next values k 0 (replicate (8 - length ns) 0) (h .zeros ∙ ap (λ (j : ℕ). replicate j 0) rest))
                 ∙ sym (append-assoc (take k values) (v ∷ []) (replicate (8 - length ns) 0));
           }
+
+-- ---- what the reader answered
+
+module _ (f : Form) (w : List ℕ) (r : Numbers) (answer : Numbered f w r ⊎ NotNumbered f w r) where
+  pub was-found : r .found ≡ true → Numbered f w r
+  was-found e = ⊎-elim (λ y. y) (λ n. absurd (true≢false (sym e ∙ n .found))) answer
+
+  pub not-found : r .found ≡ false → (ns : List ℕ) → Fields f w ns → ⊥
+  not-found e = ⊎-elim (λ y. absurd (true≢false (sym (y .found) ∙ e))) (λ n. n .none) answer

@@ -11,7 +11,7 @@ ghost use Rattle.text.specs.Digits.{preceded};
 ghost use Rattle.text.specs.Field as spec;
 
 // How the numbers of a word are written.
-pub(crate) struct Form {
+pub struct Form {
     pub base: u32,
     pub separator: u8,
     // the most digits of a number
@@ -23,7 +23,7 @@ pub(crate) struct Form {
 }
 
 // Up to eight numbers of 16 bits, zeros after them.
-pub(crate) struct Numbers {
+pub struct Numbers {
     pub found: bool,
     pub values: [u16; 8],
 }
@@ -68,7 +68,7 @@ fn no_numbers() -> Numbers
 }
 
 // The numbers that a word of this form is. Each byte is looked at once.
-pub(crate) fn read_fields(word: &[u8], form: Form) -> Numbers
+pub fn read_fields(word: &[u8], form: Form) -> Numbers
     requires { ⌜ spec.Usable form ⌝ }
     ensures { λ r. ⌜ spec.Numbered form (now (word .entry)) r ⊎ spec.NotNumbered form (now (word .entry)) r ⌝ }
 {
@@ -117,7 +117,7 @@ pub(crate) fn read_fields(word: &[u8], form: Form) -> Numbers
 }
 
 // Writes a part into `to` from index `at` on, after the separator unless it is the first; and answers where it ends.
-pub(crate) fn put_part(to: &mut [u8], at: usize, separator: u8, first: bool, part: &[u8]) -> usize
+pub fn put_part(to: &mut [u8], at: usize, separator: u8, first: bool, part: &[u8]) -> usize
     requires { ⌜ at + length (preceded first separator (now part)) ≤ length (now to) ⌝ }
     ensures { λ r. ⌜ r ≡ at + length (preceded first separator (now (part .entry))) ⌝ }
     ensures { λ r. ⌜ now (to .exit) ≡ overlay (now (to .entry)) at (preceded first separator (now (part .entry))) ⌝ }

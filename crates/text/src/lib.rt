@@ -1,5 +1,3 @@
-// How the data of a record are spelled in a listing, and read again: addresses and DHCIDs.
-pub mod address;
-pub mod dhcid;
+// Digits, and numbers with a separator between them: what the spellings of a record's data have in common.
 pub mod digit;
-mod field;
+pub mod field;

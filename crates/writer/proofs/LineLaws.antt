@@ -9,8 +9,8 @@ use lib.Seq.{take-all}
 use Rattle.base.specs.Bytes.{ascii}
 use Rattle.name.specs.Promise.{textOf}
 use Rattle.name.proofs.DottedLaws.{length-textOf}
-use Rattle.text.specs.Address.{writtenA, writtenAAAA}
-use Rattle.text.specs.Dhcid.{base64}
+use Rattle.address.specs.Address.{writtenA, writtenAAAA}
+use Rattle.dhcid_text.specs.Dhcid.{base64}
 use Rattle.grammar.specs.Listing.{RecordType, mnemonic, ResourceRecord}
 use Rattle.entry.specs.Parts.{number}
 use Rattle.writer.specs.Line.{rdataText, line, lines}

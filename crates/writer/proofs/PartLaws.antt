@@ -12,11 +12,11 @@ use Rattle.base.specs.Bytes.{overlay, ascii}
 use Rattle.base.proofs.Bytes.{overlay-append, set-overlay}
 use Rattle.name.specs.Promise.{textOf}
 use Rattle.name.proofs.DottedLaws.{length-textOf}
-use Rattle.text.specs.Address.{writtenA, writtenAAAA}
-use Rattle.text.specs.Dhcid.{base64}
+use Rattle.address.specs.Address.{writtenA, writtenAAAA}
+use Rattle.dhcid_text.specs.Dhcid.{base64}
 use Rattle.text.proofs.DigitLaws.{length-decimal}
 use Rattle.text.proofs.PartLaws.{total, total-separated}
-use Rattle.text.proofs.WrittenLaws.{octetParts, length-octets, length-written}
+use Rattle.address.proofs.WrittenLaws.{octetParts, length-octets, length-written}
 use Rattle.entry.specs.declared.Record.{Record}
 use Rattle.writer.specs.Parts.{typePart, rdataPart, restPart, lineOf}
 

@@ -8,9 +8,9 @@ use lib.Seq.{take-at}
 use Rattle.base.specs.Logic.{Every}
 use Rattle.name.specs.Name.{wire, Proper, padded}
 use Rattle.name.specs.Promise.{textOf}
-use Rattle.text.specs.DhcidReading.{zeroFilled}
-use Rattle.text.proofs.DhcidWordLaws.{length-dhcid}
-use Rattle.text.proofs.Theorems.{written-dhcid}
+use Rattle.dhcid_text.specs.DhcidReading.{zeroFilled}
+use Rattle.dhcid_text.proofs.DhcidWordLaws.{length-dhcid}
+use Rattle.dhcid_text.proofs.Theorems.{written-dhcid}
 use Rattle.grammar.specs.Listing.{RecordType, ResourceRecord}
 use Rattle.entry.specs.Parts.{number}
 use Rattle.entry.specs.EntryIs.{held}

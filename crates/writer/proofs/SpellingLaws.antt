@@ -7,7 +7,8 @@ use native.Mathlib.Omega.{arith}
 use Rattle.base.specs.Logic.{Every}
 use Rattle.name.specs.Promise.{textOf}
 use Rattle.name.proofs.Theorems.{spelled}
-use Rattle.text.proofs.Theorems.{written-a, written-aaaa, written-dhcid}
+use Rattle.address.proofs.Theorems.{written-a, written-aaaa}
+use Rattle.dhcid_text.proofs.Theorems.{written-dhcid}
 use Rattle.grammar.specs.Listing.{blank, kindOf, isWordKind, isWordByte, begins, outside, Piece, Words, Entries}
 use Rattle.grammar.specs.Listing.{RecordType, mnemonic, ResourceRecord, EitherCase, Owner, Head, Rdata, RecordEntry, Records, Spells}
 use Rattle.writer.specs.Line.{RdataOf, WellFormed, rdataText, line, lines}

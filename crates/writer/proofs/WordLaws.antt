@@ -18,11 +18,11 @@ use Rattle.name.specs.Promise.{textOf}
 use Rattle.name.proofs.LabelLaws.{label-set}
 use Rattle.name.proofs.Theorems.{spelled}
 use Rattle.text.specs.Digits.{digitValue, separated, decimal, hexDigit}
-use Rattle.text.specs.Address.{fourOf, fourDigits, writtenA, writtenAAAA}
-use Rattle.text.specs.Dhcid.{digit64, base64}
+use Rattle.address.specs.Address.{fourOf, fourDigits, writtenA, writtenAAAA}
+use Rattle.dhcid_text.specs.Dhcid.{digit64, base64}
 use Rattle.text.proofs.DigitLaws.{ten-digits, decimal-number}
 use Rattle.text.proofs.PartLaws.{total, total-separated}
-use Rattle.text.proofs.WrittenLaws.{octetParts, length-octets}
+use Rattle.address.proofs.WrittenLaws.{octetParts, length-octets}
 use Rattle.grammar.specs.Listing.{isVisible, kindOf, isWordByte, RecordType, mnemonic}
 use Rattle.writer.specs.Line.{RdataOf, rdataText}
 use Rattle.writer.proofs.PartLaws.{length-aaaa, length-dhcid}

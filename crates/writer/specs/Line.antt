@@ -14,8 +14,8 @@ use Rattle.base.specs.Logic.{Every}
 use Rattle.base.specs.Refusal.{outputShort}
 use Rattle.name.specs.Name.{Proper, canonical}
 use Rattle.name.specs.Promise.{textOf}
-use Rattle.text.specs.Address.{writtenA, writtenAAAA}
-use Rattle.text.specs.Dhcid.{base64}
+use Rattle.address.specs.Address.{writtenA, writtenAAAA}
+use Rattle.dhcid_text.specs.Dhcid.{base64}
 use Rattle.grammar.specs.Listing.{RecordType, mnemonic, ResourceRecord}
 use Rattle.entry.specs.EntryIs.{held}
 use Rattle.entry.specs.declared.Record.{Record}

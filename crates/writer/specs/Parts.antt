@@ -7,8 +7,8 @@ use lib.Dec.{eqb}
 use lib.ListN.{take}
 use Rattle.base.specs.Bytes.{ascii}
 use Rattle.name.specs.Promise.{textOf}
-use Rattle.text.specs.Address.{writtenA, writtenAAAA}
-use Rattle.text.specs.Dhcid.{base64}
+use Rattle.address.specs.Address.{writtenA, writtenAAAA}
+use Rattle.dhcid_text.specs.Dhcid.{base64}
 use Rattle.entry.specs.declared.Record.{Record}
 
 -- blank, type, blank, by the number of the type: 1 is A, 28 is AAAA, any other DHCID

@@ -1,15 +1,15 @@
 // Writing one record as a line of a listing: owner, blank, type, blank, data, byte 10.
+use address::a_length;
+use address::put_a;
+use address::put_aaaa;
 use base::Answer;
 use base::refusal::OUTPUT_SHORT;
 use base::slice::put;
+use dhcid_text::put_base64;
 use entry::Record;
 use entry::TYPE_A;
 use entry::TYPE_AAAA;
 use name::text::put_text;
-use text::address::a_length;
-use text::address::put_a;
-use text::address::put_aaaa;
-use text::dhcid::put_base64;
 ghost use mathlib.Core.Path.{_≡_};
 ghost use Prim.Native.Nat.{_+_, _≤_};
 ghost use lib.ListN.{length};

@@ -1,6 +1,6 @@
 use mathlib.Core.Path.{refl}
 use Rattle.name.specs.Name.{padded}
-use Rattle.text.specs.DhcidReading.{zeroFilled}
+use Rattle.dhcid_text.specs.DhcidReading.{zeroFilled}
 use Rattle.entry.specs.EntryIs.{noRecord}
 use Rattle.entry.proofs.no_record.Statement.{statement}
 use Rattle.entry.proofs.no_record.Tie as tie

@@ -1,0 +1,138 @@
+-- What the functions that read a DHCID's text promise, word by word. Document 01, "DHCID bytes and their text".
+use Prim.Native.Nat.{ℕ, _+_, _-_, _*_, _/_, _%_, _≤_, _<_}
+use mathlib.Core.Bool.{false, cond, _&&_}
+use mathlib.Core.Path.{_≡_}
+use mathlib.Core.List.{List, [], _∷_, _++_}
+use lib.Dec.{leb, eqb}
+use lib.ListN.{length, replicate}
+use Rattle.base.specs.Logic.{Every, Pairwise}
+use Rattle.dhcid_text.specs.Dhcid.{digit64, base64, joined, HexByte, SpellsDhcid}
+use Rattle.dhcid_text.specs.declared.DhcidWords.{DhcidWords}
+use Rattle.dhcid_text.specs.declared.ReadDhcid.{ReadDhcid}
+use Rattle.dhcid_text.specs.declared.Sextets.{Sextets}
+
+-- ---- what the reader answers
+
+-- the answer that says that there is no DHCID
+unfoldable pub noDhcid : ReadDhcid
+noDhcid = record { found = false; bytes = replicate 35 0 }
+
+-- ---- notions of the code
+
+-- the value of a base64 digit; 64, which is no digit's, for any other byte
+unfoldable pub value64 : ℕ → ℕ
+value64 b =
+    cond (leb 65 b && leb b 90) (b - 65)
+    (cond (leb 97 b && leb b 122) (b - 71)
+    (cond (leb 48 b && leb b 57) (b + 4)
+    (cond (eqb b 43) 62
+    (cond (eqb b 47) 63 64))))
+
+-- a group of base64 as it is written: the digits of two bytes and of the first two bits of a third, and the fourth character
+unfoldable pub group : ℕ → ℕ → ℕ → ℕ → List ℕ
+group a b c fourth = digit64 (a / 4) ∷ digit64 (a % 4 * 16 + b / 16) ∷ digit64 (b % 16 * 4 + c / 64) ∷ fourth ∷ []
+
+-- the 35 bytes of a state: those that were read, and zeros
+unfoldable pub zeroFilled : List ℕ → List ℕ
+zeroFilled bs = bs ++ replicate (35 - length bs) 0
+
+-- a state by its parts; and by those that base64 keeps apart from its bytes
+abbrev pub stateOf : ℕ → ℕ → ℕ → List ℕ → DhcidWords
+stateOf form count pending bytes = record { form = form; count = count; pending = pending; bytes = bytes }
+
+abbrev pub withBytes : Sextets → List ℕ → DhcidWords
+withBytes s bytes = stateOf (s .form) (s .count) (s .pending) bytes
+
+-- a state in which no character of its form was read
+pub record Fresh (f : ℕ) (s : DhcidWords) : Type 0 where
+  pub form : s .form ≡ f
+  pub count : s .count ≡ 0
+  pub bytes : s .bytes ≡ zeroFilled []
+
+-- ---- base64
+
+-- of a quantum (RFC 4648's word for a group of four digits) the first n were read, the digits t: they give the bytes g, and the bits x that the next byte begins with
+pub data Quantum (n x : ℕ) (t g : List ℕ) : Type 0 where
+  none : n ≡ 0 → t ≡ [] → g ≡ [] → Quantum n x t g
+  one : n ≡ 1 → x < 64 → t ≡ digit64 x ∷ [] → g ≡ [] → Quantum n x t g
+  two : (a : ℕ) → n ≡ 2 → x < 16 → a < 256 → t ≡ digit64 (a / 4) ∷ digit64 (a % 4 * 16 + x) ∷ [] → g ≡ a ∷ [] → Quantum n x t g
+  three : (a b : ℕ) → n ≡ 3 → x < 4 → a < 256 → b < 256
+      → t ≡ digit64 (a / 4) ∷ digit64 (a % 4 * 16 + b / 16) ∷ digit64 (b % 16 * 4 + x) ∷ [] → g ≡ a ∷ b ∷ [] → Quantum n x t g
+
+-- the characters cs are the base64 of whole groups of three bytes, and a group that is begun; more are to come
+pub record Begun64 (cs : List ℕ) (s : DhcidWords) : Type 0 where
+  pub form : s .form ≡ 1
+  pub groups : ℕ
+  pub whole : List ℕ
+  pub long : length whole ≡ 3 * groups
+  pub small : Every (λ b. b < 256) whole
+  pub read : ℕ
+  pub digits : List ℕ
+  pub last : List ℕ
+  pub group : Quantum read (s .pending) digits last
+  pub chars : cs ≡ base64 whole ++ digits
+  pub count : s .count ≡ 4 * groups + read
+  pub more : s .count ≤ 47
+  pub bytes : s .bytes ≡ zeroFilled (whole ++ last)
+
+-- the characters cs are the base64 of the state's 35 bytes
+pub record Done64 (cs : List ℕ) (s : DhcidWords) : Type 0 where
+  pub form : s .form ≡ 1
+  pub count : s .count ≡ 48
+  pub long : length (s .bytes) ≡ 35
+  pub small : Every (λ b. b < 256) (s .bytes)
+  pub chars : cs ≡ base64 (s .bytes)
+
+-- no base64 of 35 bytes begins with the characters cs
+pub record Refused64 (cs : List ℕ) (s : DhcidWords) : Type 0 where
+  pub form : s .form ≡ 4
+  pub none : (ds bs : List ℕ) → Every (λ b. b < 256) bs → length bs ≡ 35 → cs ++ ds ≡ base64 bs → ⊥
+
+-- s is the state after the characters cs of base64
+pub data Text64 (cs : List ℕ) (s : DhcidWords) : Type 0 where
+  begun : Begun64 cs s → Text64 cs s
+  done : Done64 cs s → Text64 cs s
+  refused : Refused64 cs s → Text64 cs s
+
+-- ---- hexadecimal digits
+
+-- the digits ds are pairs, which spell the state's first bytes
+pub record Begun16 (ds : List ℕ) (s : DhcidWords) : Type 0 where
+  pub form : s .form ≡ 3
+  pub pairs : List (List ℕ)
+  pub read : List ℕ
+  pub spelled : Pairwise HexByte pairs read
+  pub small : Every (λ b. b < 256) read
+  pub chars : ds ≡ joined pairs
+  pub count : s .count ≡ 2 * length read
+  pub short : length read ≤ 35
+  pub bytes : s .bytes ≡ zeroFilled read
+
+-- no pairs of digits that spell 35 bytes begin with the digits ds
+pub record Refused16 (ds : List ℕ) (s : DhcidWords) : Type 0 where
+  pub form : s .form ≡ 4
+  pub none : (es : List ℕ) (pairs : List (List ℕ)) (bs : List ℕ) → Pairwise HexByte pairs bs → length bs ≡ 35 → ds ++ es ≡ joined pairs → ⊥
+
+-- s is the state after the hexadecimal digits ds, a whole number of pairs
+pub data Text16 (ds : List ℕ) (s : DhcidWords) : Type 0 where
+  begun : Begun16 ds s → Text16 ds s
+  refused : Refused16 ds s → Text16 ds s
+
+-- ---- words
+
+-- the word that a generic form begins with: \#
+abbrev pub marker : List ℕ
+marker = 92 ∷ 35 ∷ []
+
+-- the word that says that 35 bytes follow
+abbrev pub thirtyFive : List ℕ
+thirtyFive = 51 ∷ 53 ∷ []
+
+-- s is the state after the words ws. Its form says which of these they are: none yet; base64, since the first is no marker; the marker; the
+-- marker, the length, and words of an even number of digits each; or words that no words after them make a DHCID's
+pub data After (ws : List (List ℕ)) (s : DhcidWords) : Type 0 where
+  nothing : s .form ≡ 0 → ws ≡ [] → After ws s
+  inBase64 : s .form ≡ 1 → (w : List ℕ) (vs : List (List ℕ)) → ws ≡ w ∷ vs → (w ≡ marker → ⊥) → Text64 (joined ws) s → After ws s
+  marked : s .form ≡ 2 → ws ≡ marker ∷ [] → After ws s
+  generic : s .form ≡ 3 → (digits : List (List ℕ)) → ws ≡ marker ∷ thirtyFive ∷ digits → Every (λ w. length w % 2 ≡ 0) digits → Begun16 (joined digits) s → After ws s
+  refused : s .form ≡ 4 → ((vs : List (List ℕ)) (bs : List ℕ) → SpellsDhcid (ws ++ vs) bs → ⊥) → After ws s

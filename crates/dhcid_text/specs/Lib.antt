@@ -1,0 +1,2 @@
+pub mod Dhcid
+pub mod DhcidReading
