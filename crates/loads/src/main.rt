@@ -6,12 +6,15 @@
 use base::Answer;
 use base::slice::put;
 use check::same;
+use harness::find;
+use harness::is_all;
+use harness::print;
+use harness::print_number;
+use harness::print_refusal;
 use libc::STDIN_FILENO;
-use libc::STDOUT_FILENO;
 use table_load::load;
 use table_write::write;
 ghost use mathlib.Core.Path.{_≡_};
-ghost use Prim.Native.Nat.{_≤_};
 ghost use lib.ListN.{length};
 
 // No fewer bytes than the input has.
@@ -28,32 +31,10 @@ const WRITTEN: usize = 56512;
 // Of so long a text only the length is printed.
 const LONG: usize = 4096;
 
-fn print(bytes: &[u8]) {
-    io::write_all(STDOUT_FILENO, bytes);
-}
-
-fn print_number(n: u64) {
-    io::print_decimal(STDOUT_FILENO, n);
-}
-
-fn is_old(bytes: &[u8]) -> bool {
-    let mut i: usize = 0;
-    while i < bytes.len() {
-        if bytes[i] != OLD {
-            return false;
-        }
-        i += 1;
-    }
-    true
-}
-
 // A refusal, and whether the bytes that were lent are those from before.
 fn show_refusal(number: u32, offset: u32, lent: &[u8]) {
-    print(b"refused ");
-    print_number(number as u64);
-    print(b" at ");
-    print_number(offset as u64);
-    if is_old(lent) {
+    print_refusal(number, offset);
+    if is_all(lent, OLD) {
         print(b", all bytes as they were\n");
     } else {
         print(b", bytes changed\n");
@@ -83,7 +64,7 @@ fn show_written(table: &[u8], given: &[u8], out: &[u8], len: usize) {
         print(b", more than there is room for\n");
         return;
     }
-    if !is_old(&out[len..]) {
+    if !is_all(&out[len..], OLD) {
         print(b", and more changed");
     }
     if same(&out[..len], given) {
@@ -116,21 +97,6 @@ fn run_listing(text: &[u8]) {
         }
         Answer::Refused { number, offset } => show_refusal(number, offset, &table),
     }
-}
-
-// Where the byte b stands next, from `at` on; or the end.
-fn find(text: &[u8], at: usize, b: u8) -> usize
-    requires { ⌜ at ≤ length (now text) ⌝ }
-    ensures { λ r. ⌜ (at ≤ r) × (r ≤ length (now (text .entry))) ⌝ }
-{
-    let mut i = at;
-    while i < text.len() {
-        if text[i] == b {
-            return i;
-        }
-        i += 1;
-    }
-    i
 }
 
 // A label, the line's end and a listing.

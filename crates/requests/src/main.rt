@@ -8,8 +8,11 @@ use base::Answer;
 use dhcid::Chosen;
 use dhcid::choose;
 use dhcid::put_dhcid;
+use harness::find;
+use harness::print;
+use harness::print_hex;
+use harness::print_number;
 use libc::STDIN_FILENO;
-use libc::STDOUT_FILENO;
 use message::Part;
 use message::Request;
 use message::v4::read4;
@@ -19,14 +22,6 @@ ghost use Prim.Native.Nat.{_+_, _≤_, _<_};
 ghost use lib.ListN.{length};
 
 const LINE_END: u8 = 10;
-
-fn print(bytes: &[u8]) {
-    io::write_all(STDOUT_FILENO, bytes);
-}
-
-fn print_number(n: u64) {
-    io::print_decimal(STDOUT_FILENO, n);
-}
 
 fn print_part(part: Part) {
     print(b" ");
@@ -172,33 +167,6 @@ fn make(line: &[u8], out: &mut [u8]) -> usize
     }
     let last = with_character(out, d, LINE_END);
     last.len
-}
-
-// Where the byte b stands next, from `at` on; or the end.
-fn find(text: &[u8], at: usize, b: u8) -> usize
-    requires { ⌜ at ≤ length (now text) ⌝ }
-    ensures { λ r. ⌜ (at ≤ r) × (r ≤ length (now (text .entry))) ⌝ }
-{
-    let mut i = at;
-    while i < text.len() {
-        if text[i] == b {
-            return i;
-        }
-        i += 1;
-    }
-    i
-}
-
-fn print_hex(bytes: &[u8]) {
-    let mut i: usize = 0;
-    while i < bytes.len() {
-        io::print_hex(STDOUT_FILENO, wide(bytes[i]), 2);
-        i += 1;
-    }
-}
-
-fn wide(b: u8) -> u64 {
-    b as u64
 }
 
 fn print_source(chosen: Chosen) {

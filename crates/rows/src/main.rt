@@ -4,43 +4,15 @@
 use base::Answer;
 use check::same;
 use entry::Record;
-use libc::STDOUT_FILENO;
+use harness::is_all;
+use harness::print;
+use harness::print_hex;
+use harness::print_number;
+use harness::print_refusal;
 use row::read_four;
 
 // What a place holds before the call: no record has this type.
 const MARK: u8 = 170;
-
-fn print(bytes: &[u8]) {
-    io::write_all(STDOUT_FILENO, bytes);
-}
-
-fn print_number(n: u64) {
-    io::print_decimal(STDOUT_FILENO, n);
-}
-
-fn wide(b: u8) -> u64 {
-    b as u64
-}
-
-fn print_hex(bytes: &[u8]) {
-    let mut i: usize = 0;
-    while i < bytes.len() {
-        let b = bytes[i];
-        io::print_hex(STDOUT_FILENO, wide(b), 2);
-        i += 1;
-    }
-}
-
-fn is_zero(bytes: &[u8]) -> bool {
-    let mut i: usize = 0;
-    while i < bytes.len() {
-        if bytes[i] != 0 {
-            return false;
-        }
-        i += 1;
-    }
-    true
-}
 
 fn marked() -> Record {
     Record {
@@ -77,10 +49,10 @@ fn print_place(place: Record) {
     let n = place.owner_len as usize;
     print_hex(&owner[..n]);
     print(b" ");
-    print_number(wide(place.rtype));
+    print_number(place.rtype as u64);
     print(b" ");
     print_hex(&rdata);
-    if is_zero(&owner[n..]) {
+    if is_all(&owner[n..], 0) {
         print(b" and zeros\n");
     } else {
         print(b" and other bytes\n");
@@ -94,10 +66,8 @@ fn print_answer(answer: Answer) {
             print_number(count as u64);
         }
         Answer::Refused { number, offset } => {
-            print(b": refused ");
-            print_number(number as u64);
-            print(b" at ");
-            print_number(offset as u64);
+            print(b": ");
+            print_refusal(number, offset);
         }
     }
     print(b"\n");

@@ -11,25 +11,9 @@ use address::read_aaaa;
 use dhcid_text::DhcidWords;
 use dhcid_text::ReadDhcid;
 use dhcid_text::put_base64;
-use libc::STDOUT_FILENO;
-ghost use Prim.Native.Nat.{_≤_};
-ghost use lib.ListN.{length};
-
-fn print(bytes: &[u8]) {
-    io::write_all(STDOUT_FILENO, bytes);
-}
-
-fn wide(b: u8) -> u64 {
-    b as u64
-}
-
-fn print_hex(bytes: &[u8]) {
-    let mut i: usize = 0;
-    while i < bytes.len() {
-        io::print_hex(STDOUT_FILENO, wide(bytes[i]), 2);
-        i += 1;
-    }
-}
+use harness::find;
+use harness::print;
+use harness::print_hex;
 
 fn a(word: &[u8]) {
     print(b"A ");
@@ -72,27 +56,12 @@ fn aaaa(word: &[u8]) {
     }
 }
 
-// Where the word that begins at `at` ends: at a blank, or at the end.
-fn word_end(words: &[u8], at: usize) -> usize
-    requires { ⌜ at ≤ length (now words) ⌝ }
-    ensures { λ r. ⌜ (at ≤ r) × (r ≤ length (now (words .entry))) ⌝ }
-{
-    let mut end = at;
-    while end < words.len() {
-        if words[end] == 32 {
-            return end;
-        }
-        end += 1;
-    }
-    end
-}
-
 // The words are parted by single blanks.
 fn read_words(words: &[u8]) -> ReadDhcid {
     let mut state = DhcidWords::begin();
     let mut at: usize = 0;
     while at < words.len() {
-        let end = word_end(words, at);
+        let end = find(words, at, b' ');
         state = state.word(&words[at..end]);
         at = end + 1;
     }

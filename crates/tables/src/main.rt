@@ -8,49 +8,21 @@
 use base::Answer;
 use base::slice::put;
 use check::same;
+use harness::find;
+use harness::is_all;
+use harness::print;
+use harness::print_hex;
+use harness::print_number;
 use libc::STDIN_FILENO;
-use libc::STDOUT_FILENO;
 use slots::slot;
 use slots::table::SIZE;
 ghost use mathlib.Core.Path.{_≡_};
 ghost use Prim.Native.Nat.{_≤_, _<_};
 ghost use lib.ListN.{length};
 
-fn print(bytes: &[u8]) {
-    io::write_all(STDOUT_FILENO, bytes);
-}
-
-fn print_number(n: u64) {
-    io::print_decimal(STDOUT_FILENO, n);
-}
-
-fn wide(b: u8) -> u64 {
-    b as u64
-}
-
-fn print_hex(bytes: &[u8]) {
-    let mut i: usize = 0;
-    while i < bytes.len() {
-        let b = bytes[i];
-        io::print_hex(STDOUT_FILENO, wide(b), 2);
-        i += 1;
-    }
-}
-
-fn is_zero(bytes: &[u8]) -> bool {
-    let mut i: usize = 0;
-    while i < bytes.len() {
-        if bytes[i] != 0 {
-            return false;
-        }
-        i += 1;
-    }
-    true
-}
-
 fn print_field(bytes: &[u8]) {
     print(b" ");
-    if is_zero(bytes) {
+    if is_all(bytes, 0) {
         print(b"-");
     } else {
         print_hex(bytes);
@@ -64,6 +36,10 @@ fn name_end(len: u8) -> usize
     1 + len as usize
 }
 
+fn print_flags(flags: u8) {
+    print_number(flags as u64);
+}
+
 fn print_slot(slot: &[u8])
     requires { ⌜ length (now slot) ≡ 312 ⌝ }
 {
@@ -71,7 +47,7 @@ fn print_slot(slot: &[u8])
     print(b" [");
     print_hex(&slot[1..end]);
     print(b" ");
-    print_number(wide(slot[256]));
+    print_flags(slot[256]);
     print_field(&slot[257..261]);
     print_field(&slot[261..277]);
     print_field(&slot[277..281]);
@@ -251,21 +227,6 @@ fn make(word: &[u8], out: &mut [u8]) -> usize
         i += 2;
     }
     n
-}
-
-// Where the byte b stands next, from `at` on; or the end.
-fn find(text: &[u8], at: usize, b: u8) -> usize
-    requires { ⌜ at ≤ length (now text) ⌝ }
-    ensures { λ r. ⌜ (at ≤ r) × (r ≤ length (now (text .entry))) ⌝ }
-{
-    let mut i = at;
-    while i < text.len() {
-        if text[i] == b {
-            return i;
-        }
-        i += 1;
-    }
-    i
 }
 
 // A blank and the address.

@@ -2,23 +2,16 @@
 // the first four from NIST's examples for FIPS 180-4 (the empty message from NIST's test vectors), the others by GNU coreutils 9.1's
 // sha256sum, with which Python 3.11's hashlib (OpenSSL 3.0) agrees. The others are the bytes 0, 1, 2 and so on, as many as the line says:
 // lengths on both sides of where the padding takes another block.
+use harness::print;
+use harness::print_hex;
 use hash::Sha256;
 use hash::digest_of;
-use libc::STDOUT_FILENO;
 ghost use Prim.Native.Nat.{_≤_};
 
-fn wide(b: u8) -> u64 {
-    b as u64
-}
-
 fn show(label: &[u8], digest: [u8; 32]) {
-    io::write_all(STDOUT_FILENO, label);
-    let mut i: usize = 0;
-    while i < 32 {
-        io::print_hex(STDOUT_FILENO, wide(digest[i]), 2);
-        i += 1;
-    }
-    io::write_all(STDOUT_FILENO, b"\n");
+    print(label);
+    print_hex(&digest);
+    print(b"\n");
 }
 
 // A million times the letter a: pieces of 1, 2, 3 and so on up to 1,413 bytes, and the 1,009 that are left.

@@ -23,17 +23,17 @@ print-requires-2 c κs = search needs
 returns : tie.Need-returns
 returns c = search needs
 
-sub-is-old : tie.Need-sub-is-old
-sub-is-old c = search needs
+sub-is-all : tie.Need-sub-is-all
+sub-is-all c = search needs
 
-part-is-old-start : tie.Need-part-is-old-start
-part-is-old-start c = search needs
+part-is-all-start : tie.Need-part-is-all-start
+part-is-all-start c = search needs
 
-part-is-old-end : tie.Need-part-is-old-end
-part-is-old-end c = search needs
+part-is-all-end : tie.Need-part-is-all-end
+part-is-all-end c = search needs
 
-is-old-requires : tie.Need-is-old-requires
-is-old-requires c κs = search needs
+is-all-requires : tie.Need-is-all-requires
+is-all-requires c κs = search needs
 
 slice-aggregate-print-3 : tie.Need-slice-aggregate-print-3
 slice-aggregate-print-3 c = search needs
@@ -90,10 +90,10 @@ show-written-spec =
     slice-aggregate-print-2
     print-requires-2
     returns
-    sub-is-old
-    part-is-old-start
-    part-is-old-end
-    is-old-requires
+    sub-is-all
+    part-is-all-start
+    part-is-all-end
+    is-all-requires
     slice-aggregate-print-3
     print-requires-3
     slice-aggregate-same

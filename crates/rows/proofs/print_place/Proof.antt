@@ -45,8 +45,8 @@ slice-aggregate-print-3 c = search needs
 print-requires-3 : tie.Need-print-requires-3
 print-requires-3 c κs = search needs
 
-wide-requires : tie.Need-wide-requires
-wide-requires c κs = search needs
+cast-print-number : tie.Need-cast-print-number
+cast-print-number c = search needs
 
 print-number-requires : tie.Need-print-number-requires
 print-number-requires c κs = search needs
@@ -63,19 +63,19 @@ slice-aggregate-print-hex-2 c = search needs
 print-hex-requires-2 : tie.Need-print-hex-requires-2
 print-hex-requires-2 c κs = search needs
 
-sub-is-zero : tie.Need-sub-is-zero
-sub-is-zero c = search needs
+sub-is-all : tie.Need-sub-is-all
+sub-is-all c = search needs
 
-part-is-zero-start : tie.Need-part-is-zero-start
-part-is-zero-start c = search needs
+part-is-all-start : tie.Need-part-is-all-start
+part-is-all-start c = search needs
 
-part-is-zero-end : tie.Need-part-is-zero-end
-part-is-zero-end c =
+part-is-all-end : tie.Need-part-is-all-end
+part-is-all-end c =
     let long : length (c .before .before .before .before .before .before .before .before .before .before .before .before .before .before .before .before .before .before .args .place .owner) ≡ 255 = search needs in
     omega arith
 
-is-zero-requires : tie.Need-is-zero-requires
-is-zero-requires c κs = search needs
+is-all-requires : tie.Need-is-all-requires
+is-all-requires c κs = search needs
 
 slice-aggregate-print-5 : tie.Need-slice-aggregate-print-5
 slice-aggregate-print-5 c = search needs
@@ -111,16 +111,16 @@ print-place-spec =
     print-hex-requires
     slice-aggregate-print-3
     print-requires-3
-    wide-requires
+    cast-print-number
     print-number-requires
     slice-aggregate-print-4
     print-requires-4
     slice-aggregate-print-hex-2
     print-hex-requires-2
-    sub-is-zero
-    part-is-zero-start
-    part-is-zero-end
-    is-zero-requires
+    sub-is-all
+    part-is-all-start
+    part-is-all-end
+    is-all-requires
     slice-aggregate-print-5
     print-requires-5
     slice-aggregate-print-6

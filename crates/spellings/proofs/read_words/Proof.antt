@@ -16,8 +16,8 @@ begin-requires c κs = search needs
 loop-holds : tie.Need-loop-holds Inv-loop μ-loop
 loop-holds c = search needs
 
-word-end-requires : tie.Need-word-end-requires Inv-loop μ-loop
-word-end-requires c κs = search needs
+find-requires : tie.Need-find-requires Inv-loop μ-loop
+find-requires c κs = search needs
 
 sub-word : tie.Need-sub-word Inv-loop μ-loop
 sub-word c = search needs
@@ -54,7 +54,7 @@ read-words-spec =
     μ-loop
     begin-requires
     loop-holds
-    word-end-requires
+    find-requires
     sub-word
     part-word-start
     part-word-end
