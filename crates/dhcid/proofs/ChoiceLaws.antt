@@ -14,10 +14,9 @@ use Rattle.base.specs.Refusal.{noProperName, unknownSetting}
 use Rattle.base.proofs.Tests.{and-left, and-right}
 use Rattle.name.specs.Name.{Proper}
 use Rattle.name.proofs.WireLaws.{accepts, accepts-proper, proper-first, proper-short, decided}
-use Rattle.message.specs.Request.{bytesOf, refusedWith}
-use Rattle.message.specs.Judging4.{Inside}
+use Rattle.message.specs.Request.{bytesOf, Inside, refusedWith}
 use Rattle.message.specs.declared.Request.{Request}
-use Rattle.message.proofs.PartLaws4.{part-length}
+use Rattle.message.proofs.PartLaws.{part-length}
 use Rattle.dhcid.specs.Chosen.{KnownSetting, KnownFamily, Says, noChoice, fromMessage, fromSite, UsesClients, Chooses, among, nameBytes}
 use Rattle.dhcid.specs.Choosing.{isKnown, said, isProper, usesClients, bySite, chosenFor, choose}
 use Rattle.dhcid.specs.declared.Chosen.{Chosen}

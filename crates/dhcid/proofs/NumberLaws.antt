@@ -6,12 +6,14 @@ use mathlib.Core.Option.{Option, none, some}
 use native.Mathlib.Omega.{arith}
 use lib.Dec.{leb}
 use lib.ListN.{length}
-use Rattle.message.specs.Options.{Located, located4, located6, having, isRepeated, optionOf}
+use Rattle.message.specs.Options.{Located, having, isRepeated, optionOf}
 use Rattle.message.specs.Request.{refusedWith, Identifier, accepted, identified}
-use Rattle.message.specs.Message4.{isRequest, identifier4, name4, judge4, Reads4}
-use Rattle.message.specs.Message6.{identifier6, name6, judge6, Level, Reads6}
 use Rattle.message.specs.declared.Part.{Part}
 use Rattle.message.specs.declared.Request.{Request}
+use Rattle.message4.specs.Options4.{located4}
+use Rattle.message4.specs.Message4.{isRequest, identifier4, name4, judge4, Reads4}
+use Rattle.message6.specs.Options6.{located6}
+use Rattle.message6.specs.Message6.{identifier6, name6, judge6, Level, Reads6}
 use Rattle.dhcid.specs.Chosen.{Says, noChoice, fromMessage, fromSite, Chooses}
 use Rattle.dhcid.specs.declared.Chosen.{Chosen}
 

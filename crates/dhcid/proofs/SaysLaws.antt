@@ -12,16 +12,17 @@ use borrow.Author.Tests.{eqb-true, eq-eqb, ne-eqb}
 use Rattle.base.specs.Logic.{Every}
 use Rattle.base.proofs.Tests.{and-left, and-right}
 use Rattle.base.specs.Refusal.{unknownSetting}
-use Rattle.message.specs.Options.{Located, located4, isRepeated, having, optionOf}
-use Rattle.message.specs.Request.{refusedWith, identifierBytes, identified, accepted}
-use Rattle.message.specs.Message4.{Reads4, judge4, identifier4, name4, isRequest, hasDuid, hlen}
-use Rattle.message.specs.Message6.{Reads6}
-use Rattle.message.specs.Reading4.{request4}
-use Rattle.message.specs.Reading6.{request6}
-use Rattle.message.specs.Judging4.{Inside}
+use Rattle.message.specs.Options.{Located, isRepeated, having, optionOf}
+use Rattle.message.specs.Request.{Inside, refusedWith, identifierBytes, identified, accepted}
 use Rattle.message.specs.declared.Part.{Part}
 use Rattle.message.specs.declared.Request.{Request}
-use Rattle.message.proofs.Theorems.{answer4, only-answer4, id-head-inside4, id-inside4, name-inside4, identifier-most4, answer6, only-answer6, identifier-type6, no-head6, id-inside6, name-inside6, identifier-length6}
+use Rattle.message4.specs.Options4.{located4}
+use Rattle.message4.specs.Message4.{Reads4, judge4, identifier4, name4, isRequest, hasDuid, hlen}
+use Rattle.message4.specs.Reading4.{request4}
+use Rattle.message4.proofs.Theorems.{answer4, only-answer4, id-head-inside4, id-inside4, name-inside4, identifier-most4}
+use Rattle.message6.specs.Message6.{Reads6}
+use Rattle.message6.specs.Reading6.{request6}
+use Rattle.message6.proofs.Theorems.{answer6, only-answer6, identifier-type6, no-head6, id-inside6, name-inside6, identifier-length6}
 use Rattle.dhcid.specs.Chosen.{KnownSetting, KnownFamily, Says}
 use Rattle.dhcid.specs.Choosing.{isKnown, said}
 

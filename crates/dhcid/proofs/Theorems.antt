@@ -11,8 +11,7 @@ use Rattle.base.specs.Logic.{Every}
 use Rattle.base.specs.Refusal.{hashInputLong}
 use Rattle.base.specs.declared.Answer.{Answer}
 use Rattle.name.specs.Name.{Proper, canonical}
-use Rattle.message.specs.Request.{identifierBytes}
-use Rattle.message.specs.Judging4.{Inside}
+use Rattle.message.specs.Request.{Inside, identifierBytes}
 use Rattle.message.specs.declared.Request.{Request}
 use Rattle.dhcid.specs.Chosen.{Says, Chooses, among, nameBytes}
 use Rattle.dhcid.specs.Dhcid.{dhcid, Writes}

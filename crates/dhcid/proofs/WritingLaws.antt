@@ -18,10 +18,9 @@ use Rattle.base.proofs.Bytes.{overlay-zeros, overlay-append}
 use Rattle.name.specs.Name.{canonical}
 use Rattle.name.proofs.WireLaws.{proper-short}
 use Rattle.name.proofs.NameLaws.{length-canonical}
-use Rattle.message.specs.Request.{bytesOf, identifierBytes}
-use Rattle.message.specs.Judging4.{Inside}
+use Rattle.message.specs.Request.{bytesOf, Inside, identifierBytes}
 use Rattle.message.specs.declared.Request.{Request}
-use Rattle.message.proofs.PartLaws4.{part-length}
+use Rattle.message.proofs.PartLaws.{part-length}
 use Rattle.dhcid.specs.Chosen.{KnownSetting, Says, noChoice, Chooses, nameBytes, sourceNumber, placeAnswer}
 use Rattle.dhcid.specs.Dhcid.{dhcid, dhcidOf, Writes}
 use Rattle.dhcid.specs.Choosing.{said, chosenFor, choose, Hashable, refusalUnder, outputBy, PutsUnder, refusalOf, writingRefusal, writingAnswer, writingOutput, Puts}

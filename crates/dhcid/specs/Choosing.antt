@@ -10,11 +10,10 @@ use Rattle.base.specs.Bytes.{overlay}
 use Rattle.base.specs.Refusal.{noProperName, unknownSetting, outputShort, hashInputLong}
 use Rattle.base.specs.declared.Answer.{Answer}
 use Rattle.name.proofs.WireLaws.{accepts}
-use Rattle.message.specs.Request.{bytesOf, refusedWith, identifierBytes}
-use Rattle.message.specs.Judging4.{Inside}
-use Rattle.message.specs.Reading4.{request4}
-use Rattle.message.specs.Reading6.{request6}
+use Rattle.message.specs.Request.{bytesOf, Inside, refusedWith, identifierBytes}
 use Rattle.message.specs.declared.Request.{Request}
+use Rattle.message4.specs.Reading4.{request4}
+use Rattle.message6.specs.Reading6.{request6}
 use Rattle.dhcid.specs.Chosen.{noChoice, fromMessage, fromSite, nameBytes, answerBy}
 use Rattle.dhcid.specs.Dhcid.{dhcid, dhcidOf}
 use Rattle.dhcid.specs.declared.Chosen.{Chosen}

@@ -11,10 +11,10 @@ use Rattle.base.specs.declared.Answer.{Answer}
 use Rattle.base.specs.declared.Answer.the-variants.{Accepted, Refused}
 use Rattle.name.specs.Name.{Proper}
 use Rattle.message.specs.Request.{bytesOf, noPart}
-use Rattle.message.specs.Message4.{Reads4}
-use Rattle.message.specs.Message6.{Reads6}
 use Rattle.message.specs.declared.Part.{Part}
 use Rattle.message.specs.declared.Request.{Request}
+use Rattle.message4.specs.Message4.{Reads4}
+use Rattle.message6.specs.Message6.{Reads6}
 use Rattle.dhcid.specs.declared.Chosen.{Chosen}
 
 -- ---- settings and families

@@ -29,11 +29,12 @@ use Rattle.grammar.proofs.OwnerReader.{ownerOf}
 use Rattle.grammar.proofs.Reader.{readUpTo, read, check}
 use Rattle.grammar.proofs.ReaderLaws.{checks}
 use Rattle.grammar.proofs.Scan.{scan}
-use Rattle.message.specs.Message4.{hlen, hasDuid, hasWireName, judge4}
-use Rattle.message.specs.Options.{located4, having, isRepeated, optionOf}
-use Rattle.message.specs.Reading4.{field, fieldsAfter, fields4, options4, isBootrequest, afterHeader4, request4}
+use Rattle.message.specs.Options.{having, isRepeated, optionOf}
 use Rattle.message.specs.Request.{bytesOf, refusedWith, accepted, identifierBytes}
-use Rattle.message.proofs.Theorems.{answer4}
+use Rattle.message4.specs.Message4.{hlen, hasDuid, hasWireName, judge4}
+use Rattle.message4.specs.Options4.{located4}
+use Rattle.message4.specs.Reading4.{field, fieldsAfter, fields4, options4, isBootrequest, afterHeader4, request4}
+use Rattle.message4.proofs.Theorems.{answer4}
 use Rattle.edges.specs.Rows.{Row, name, identifier, last-group, listing, requestWith, digits, bytes, Holds, labels, rows, Hold}
 
 -- ---- names

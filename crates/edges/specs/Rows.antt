@@ -12,9 +12,9 @@ use Rattle.name.specs.Name.{wire, text, Proper, canonical}
 use Rattle.name.specs.Promise.{textOf}
 use Rattle.dhcid_text.specs.Dhcid.{SpellsDhcid}
 use Rattle.grammar.specs.Outcome.{Outcome, accepted, refused, Checked}
-use Rattle.message.specs.Message4.{Reads4}
 use Rattle.message.specs.Request.{identifierBytes}
 use Rattle.message.specs.declared.Request.{Request}
+use Rattle.message4.specs.Message4.{Reads4}
 
 pub data Row : Type 0 where
   -- bytes, and the text of the name that they are in wire form, in lower case; none, if they are no proper name

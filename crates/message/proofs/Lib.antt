@@ -1,15 +1,2 @@
+pub mod PartLaws
 pub mod SeenLaws
-pub mod Laws4
-pub mod PartLaws4
-pub mod JudgeLaws4
-pub mod WalkLaws4
-pub mod PlaceLaws4
-pub mod OptionsLaws6
-pub mod LevelLaws6
-pub mod PassLaws6
-pub mod StandLaws6
-pub mod JudgeLaws6
-pub mod WalkLaws6
-pub mod ReadLaws6
-pub mod AcceptLaws6
-pub mod Theorems

@@ -1,9 +1,9 @@
 -- What a request says: the refusal that it gets; or the client's identifier (RFC 4701, 3.3 and 3.5) and the name that the client asks for, both as parts of the message.
-use Prim.Native.Nat.{ℕ}
+use Prim.Native.Nat.{ℕ, _+_, _≤_}
 use mathlib.Core.Bool.{Bool, true, false}
 use mathlib.Core.List.{List, _++_}
 use mathlib.Core.Option.{Option, none, some}
-use lib.ListN.{take, drop}
+use lib.ListN.{length, take, drop}
 use Rattle.base.specs.Refusal.{noIdentifier}
 use Rattle.message.specs.declared.Part.{Part}
 use Rattle.message.specs.declared.Request.{Request}
@@ -11,6 +11,10 @@ use Rattle.message.specs.declared.Request.{Request}
 -- the bytes of a part of the message m
 unfoldable pub bytesOf : List ℕ → Part → List ℕ
 bytesOf m p = take (p .len) (drop (p .start) m)
+
+-- the part lies within the message m
+abbrev pub Inside : List ℕ → Part → Type 0
+Inside m p = p .start + p .len ≤ length m
 
 abbrev pub noPart : Part
 noPart = record { start = 0; len = 0 }

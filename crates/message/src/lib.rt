@@ -1,7 +1,5 @@
-// DHCP requests: which client sent one, and which name it asks for. Both are answered as parts of the message, uncopied.
-mod seen;
-pub mod v4;
-pub mod v6;
+// What a DHCP request of either family says: which client sent it, and which name it asks for. Both are parts of the message, uncopied.
+pub mod seen;
 
 ghost use mathlib.Core.Path.{_≡_};
 ghost use Rattle.message.specs.Request.{refusedWith};
@@ -27,7 +25,7 @@ pub struct Request {
 }
 
 // A refusal.
-fn refused(number: u32) -> Request
+pub fn refused(number: u32) -> Request
     ensures { λ r. ⌜ r ≡ refusedWith number ⌝ }
 {
     Request {

@@ -13,7 +13,7 @@ pub struct Seen {
 }
 
 impl Seen {
-    pub(crate) fn none() -> Seen
+    pub fn none() -> Seen
         ensures { λ r. ⌜ r ≡ spec.seenOf [] ⌝ }
     {
         Seen {
@@ -24,7 +24,7 @@ impl Seen {
     }
 
     // One more option with this code.
-    pub(crate) fn met(self, part: Part) -> Seen
+    pub fn met(self, part: Part) -> Seen
         ensures { λ r. ⌜ r ≡ spec.met self part ⌝ }
     {
         // number by number, so that a loop over options keeps them in registers

@@ -1,7 +1,6 @@
 use mathlib.Core.Bool.{Bool}
 use mathlib.Core.Path.{sym, ap, subst, _∙_}
-use Rattle.message.specs.Request.{bytesOf}
-use Rattle.message.specs.Judging4.{Inside}
+use Rattle.message.specs.Request.{bytesOf, Inside}
 use Rattle.dhcid.specs.Chosen.{among, nameBytes}
 use Rattle.dhcid.specs.Handing.{placeIn, source}
 use Rattle.dhcid.proofs.name_of.Statement.{statement}

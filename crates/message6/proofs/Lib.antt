@@ -1,0 +1,9 @@
+pub mod OptionsLaws6
+pub mod LevelLaws6
+pub mod PassLaws6
+pub mod StandLaws6
+pub mod JudgeLaws6
+pub mod WalkLaws6
+pub mod ReadLaws6
+pub mod AcceptLaws6
+pub mod Theorems

@@ -1,0 +1,3 @@
+pub mod Options6
+pub mod Message6
+pub mod Reading6
