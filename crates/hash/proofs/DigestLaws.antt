@@ -7,7 +7,8 @@ use lib.ListN.{length, getD, length-append}
 use Rattle.base.specs.Bytes.{bigEndian, inBytes}
 use Rattle.base.proofs.Bytes.{length-bigEndian}
 use Rattle.base.proofs.Fill.{length-tabulate}
-use Rattle.hash.specs.Sha256.{_⊞_, H₀, schedule, words, rounds, sums, compress, block, hashValue, digest}
+use Rattle.sha256_block.specs.Block.{_⊞_, schedule, words, rounds, sums, compress}
+use Rattle.hash.specs.Sha256.{H₀, block, hashValue, digest}
 
 pub length-value : (m : List ℕ) (n : ℕ) → length (hashValue H₀ m n) ≡ 8
 unfolding hashValue compress sums H₀

@@ -1,4 +1,3 @@
-pub mod BlockLaws
 pub mod StateLaws
 pub mod PaddingLaws
 pub mod DigestLaws

@@ -8,7 +8,8 @@ use lib.ListN.{length, take, drop, length-append, length-drop, drop-of-length-le
 use lib.Seq.{take-all, drop-drop, drop-append-le, take-append-le, length-take-le}
 use Rattle.base.specs.Bytes.{overlay}
 use Rattle.base.proofs.Bytes.{length-overlay, take-overlay, overlay-to-end}
-use Rattle.hash.specs.Sha256.{block, compress, hashValue}
+use Rattle.sha256_block.specs.Block.{compress}
+use Rattle.hash.specs.Sha256.{block, hashValue}
 use Rattle.hash.specs.State.{waiting, blocks, remainder, Takes}
 use Rattle.hash.specs.declared.Sha256.{Sha256}
 

@@ -1,20 +1,54 @@
 // SHA-256 (FIPS 180-4). A running hash is begun, takes the message's bytes in any number of parts, and is finished; its digest is then the
 // message's. Each step takes the state by value and hands it on: 104 bytes, no heap.
-mod block;
-mod constants;
 mod padding;
-mod word;
 
 use base::slice::put;
-use block::absorb;
-use block::compress;
-use constants::INITIAL;
 use padding::padding_bytes;
 use padding::padding_length;
-use word::to_bytes;
+use sha256_block::compress;
 ghost use mathlib.Core.Path.{_≡_};
+ghost use Rattle.base.specs.Bytes.{bigEndian};
 ghost use Rattle.hash.specs.Sha256 as spec;
-ghost use Rattle.hash.specs.State.{Begins, Takes};
+ghost use Rattle.hash.specs.State.{blocks, Begins, Takes};
+
+// The initial hash value, FIPS 180-4 section 5.3.3.
+const INITIAL: [u32; 8] = [
+    0x6a09_e667,
+    0xbb67_ae85,
+    0x3c6e_f372,
+    0xa54f_f53a,
+    0x510e_527f,
+    0x9b05_688c,
+    0x1f83_d9ab,
+    0x5be0_cd19,
+];
+
+// The hash value after each whole block of bytes.
+fn absorb(h: [u32; 8], bytes: &[u8]) -> [u32; 8]
+    ensures { λ r. ⌜ r ≡ spec.hashValue h (now (bytes .entry)) (blocks (now (bytes .entry))) ⌝ }
+{
+    let n = bytes.len() / 64;
+    let mut s = h;
+    let mut i: usize = 0;
+    while i < n {
+        let x = compress(s, &bytes[i * 64..i * 64 + 64]);
+        s = x;
+        i += 1;
+    }
+    s
+}
+
+// The bytes of a word, the highest first.
+fn to_bytes(x: u32) -> [u8; 4]
+    ensures { λ r. ⌜ r ≡ bigEndian 4 x ⌝ }
+{
+    [
+        ((x >> 24) % 256) as u8,
+        ((x >> 16) % 256) as u8,
+        ((x >> 8) % 256) as u8,
+        (x % 256) as u8,
+    ]
+}
 
 pub struct Sha256 {
     // the hash value after the whole blocks

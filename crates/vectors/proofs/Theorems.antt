@@ -1,7 +1,8 @@
 -- The definition of SHA-256, computed: it gives NIST's examples. Assumes nothing.
 use mathlib.Core.Path.{refl}
 use Rattle.base.specs.Bytes.{bigEndian, inBytes, tabulate}
-use Rattle.hash.specs.Sha256.{_⊞_, SHR, SHL, ROTR, complement, Ch, Maj, Σ₀, Σ₁, σ₀, σ₁, K, zeroBytes, padding, padded, block, word, words, H₀, W, schedule, T₁, T₂, round, rounds, sums, compress, hashValue, digest, sha256}
+use Rattle.sha256_block.specs.Block.{_⊞_, SHR, SHL, ROTR, complement, Ch, Maj, Σ₀, Σ₁, σ₀, σ₁, K, word, words, W, schedule, T₁, T₂, round, rounds, sums, compress}
+use Rattle.hash.specs.Sha256.{zeroBytes, padding, padded, block, H₀, hashValue, digest, sha256}
 use Rattle.vectors.specs.Examples.{examples, Hold}
 
 pub examples-hold : Hold examples
