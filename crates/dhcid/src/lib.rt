@@ -9,6 +9,7 @@ use base::slice::put;
 use hash::Sha256;
 use message::Part;
 use message::Request;
+use message::refused;
 use message4::read4;
 use message6::read6;
 use name::wire::LONGEST;
@@ -20,11 +21,10 @@ ghost use mathlib.Core.List.{_∷_, _++_};
 ghost use Prim.Native.Nat.{_+_, _*_, _^_, _≤_};
 ghost use lib.ListN.{length};
 ghost use Rattle.base.specs.Bytes.{bigEndian, overlay};
-ghost use Rattle.base.specs.Refusal.{unknownSetting};
 ghost use Rattle.hash.specs.Sha256.{sha256};
 ghost use Rattle.hash.specs.State.{StateOf};
 ghost use Rattle.name.specs.Name as names;
-ghost use Rattle.message.specs.Request.{Inside, refusedWith, identifierBytes};
+ghost use Rattle.message.specs.Request.{Inside, identifierBytes};
 ghost use Rattle.dhcid.specs.Chosen.{noChoice, among, sourceNumber, placeAnswer};
 ghost use Rattle.dhcid.specs.Handing.{PartOf, HandsOn};
 ghost use Rattle.dhcid.specs.Choosing as spec;
@@ -65,25 +65,12 @@ fn is_known(family: u32, setting: u32) -> bool
     ((family == V4) | (family == V6)) & ((setting == SITE_ALWAYS) | (setting == CLIENT_FIRST))
 }
 
-fn unknown() -> Request
-    ensures { λ r. ⌜ r ≡ refusedWith unknownSetting ⌝ }
-{
-    Request {
-        refusal: UNKNOWN_SETTING,
-        id_type: 0,
-        has_name: false,
-        name: Part { start: 0, len: 0 },
-        id_head: Part { start: 0, len: 0 },
-        id: Part { start: 0, len: 0 },
-    }
-}
-
 // What the message says, whichever family it is of.
 fn read(family: u32, setting: u32, message: &[u8]) -> Request
     ensures { λ r. ⌜ r ≡ spec.said family setting (now (message .entry)) ⌝ }
 {
     if !is_known(family, setting) {
-        return unknown();
+        return refused(UNKNOWN_SETTING);
     }
     if family == V4 {
         return read4(message);

@@ -8,14 +8,14 @@ use Rattle.dhcid.proofs.read.Tie as tie
 is-known-requires : tie.Need-is-known-requires
 is-known-requires c κs = search needs
 
-unknown-requires : tie.Need-unknown-requires
-unknown-requires c κs = search needs
+refused-requires : tie.Need-refused-requires
+refused-requires c κs = search needs
 
 returns : tie.Need-returns
 returns c =
     let start = c .before .before .before .before .args in
     let is = c .before .before .is-known in
-    c .unknown .ensures ∙ sym (said-unknown (start .family) (start .setting) (start .message .now) (sym (is .ensures) ∙ not-true (is .result) (c .before .if1 .taken)))
+    c .refused .ensures ∙ sym (said-unknown (start .family) (start .setting) (start .message .now) (sym (is .ensures) ∙ not-true (is .result) (c .before .if1 .taken)))
 
 read4-requires : tie.Need-read4-requires
 read4-requires c κs = search needs
@@ -42,7 +42,7 @@ read-spec =
     tie.close
     (tie.spec
     is-known-requires
-    unknown-requires
+    refused-requires
     returns
     read4-requires
     returns-2
