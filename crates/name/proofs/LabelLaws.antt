@@ -36,11 +36,11 @@ lower-length n short = lower-other n (under 65 n 90 (omega arith))
 
 module _ (b : ℕ) where
   -- what is upper case, and what it becomes
-  upper-range : isUpper b ≡ true → (65 ≤ b) × (b ≤ 90)
+  pub upper-range : isUpper b ≡ true → (65 ≤ b) × (b ≤ 90)
   unfolding isUpper
   upper-range e = (leb-true 65 b (and-left (leb 65 b) (leb b 90) e), leb-true b 90 (and-right (leb 65 b) (leb b 90) e))
 
-  by-case : {P : Type 0} → (isUpper b ≡ true → P) → (isUpper b ≡ false → P) → P
+  pub by-case : {P : Type 0} → (isUpper b ≡ true → P) → (isUpper b ≡ false → P) → P
   by-case {P} f g = go (isUpper b) refl
     where
       go : (t : Bool) → isUpper b ≡ t → P

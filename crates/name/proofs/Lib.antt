@@ -5,3 +5,4 @@ pub mod TextLaws
 pub mod ReadingLaws
 pub mod DottedLaws
 pub mod Theorems
+pub mod StrayLaws

@@ -137,7 +137,7 @@ decided n b e first short =
 
 -- ---- the test at index i of n
 
-at-last : (r : List ℕ) (i n : ℕ) → i + length r ≡ n → eqb i n ≡ isNil r
+pub at-last : (r : List ℕ) (i n : ℕ) → i + length r ≡ n → eqb i n ≡ isNil r
 at-last [] i n e = eq-eqb i n (omega arith)
 at-last (b ∷ r) i n e = ne-eqb i n (λ z. omega arith)
 

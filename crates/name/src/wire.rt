@@ -1,12 +1,14 @@
 // Names in wire form.
 use crate::byte::is_label_byte;
 use crate::byte::lower;
+use crate::byte::stray;
 ghost use mathlib.Core.Path.{_≡_};
 ghost use Prim.Native.Nat.{_+_, _≤_};
 ghost use lib.ListN.{length};
 ghost use Rattle.base.specs.Bytes.{overlay};
 ghost use Rattle.base.specs.Logic.{Decides};
 ghost use Rattle.name.specs.Name as spec;
+ghost use Rattle.name.specs.Strays as count;
 
 // The longest name, in bytes.
 pub const LONGEST: usize = 255;
@@ -47,6 +49,49 @@ pub fn is_proper(name: &[u8]) -> bool
             left -= 1;
         }
         i += 1;
+    }
+    false
+}
+
+// How many bytes no label in canonical form has: with no way out before the last, so that many are taken at a turn.
+fn strays(name: &[u8]) -> u8
+    requires { ⌜ length (now name) ≤ 255 ⌝ }
+    ensures { λ r. ⌜ r ≡ count.strays (now (name .entry)) ⌝ }
+{
+    let mut found: u8 = 0;
+    let mut i: usize = 0;
+    while i < name.len() {
+        found += stray(name[i]);
+        i += 1;
+    }
+    found
+}
+
+// Is this a proper name in canonical form, and nothing after it? Only the lengths are walked over: the labels are right if every stray is a length.
+pub fn is_canonical(name: &[u8]) -> bool
+    ensures { λ r. ⌜ Decides r (spec.Proper (now (name .entry)) × (spec.canonical (now (name .entry)) ≡ now (name .entry))) ⌝ }
+{
+    let n = name.len();
+    if LONGEST < n {
+        return false;
+    }
+    // the root, or nothing at all
+    if n < 2 {
+        return false;
+    }
+    // the strays, but for the lengths passed
+    let mut left = strays(name);
+    let mut i: usize = 0;
+    while i < n {
+        let b = name[i];
+        if b == 0 {
+            return (i + 1 == n) & (left == 1);
+        }
+        if LONGEST_LABEL < b {
+            return false;
+        }
+        left -= stray(b);
+        i += b as usize + 1;
     }
     false
 }

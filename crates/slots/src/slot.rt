@@ -12,8 +12,7 @@ use crate::field::raise;
 use crate::field::same;
 use base::dhcid::is_well_formed;
 use base::slice::put;
-use name::wire::is_proper;
-use name::wire::matches;
+use name::wire::is_canonical;
 use name::wire::put_canonical;
 ghost use mathlib.Core.Path.{_≡_};
 ghost use Prim.Native.Nat.{_+_, _≤_};
@@ -56,10 +55,7 @@ const ALL: u8 = 7;
 fn is_held_name(name: &[u8]) -> bool
     ensures { λ r. ⌜ Decides r (tests.HeldName (now (name .entry))) ⌝ }
 {
-    if !is_proper(name) {
-        return false;
-    }
-    matches(name, name)
+    is_canonical(name)
 }
 
 // Do the flags and the fields agree?
