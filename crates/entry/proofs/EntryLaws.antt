@@ -1,6 +1,6 @@
 -- What an entry comes to, by its words and its end. Assumes nothing.
 use Prim.Native.Nat.{ℕ, _-_, _≤_, _<_}
-use mathlib.Core.Bool.{Bool, true, false, cond}
+use mathlib.Core.Bool.{Bool, true, false, cond, false≢true}
 use mathlib.Core.Path.{_≡_, refl, sym, ap, subst, _∙_}
 use mathlib.Core.List.{List, [], _∷_}
 use mathlib.Core.Logic.{_⊎_, ⊎-elim}
@@ -37,6 +37,18 @@ alone-followed : (c : Content) (m : ℕ) → alone c ≡ followed c m (right [])
 alone-followed nothing m = refl
 alone-followed (one r) m = refl
 alone-followed (fault n) m = refl
+
+isOne : Content → Bool
+isOne nothing = false
+isOne (one r) = true
+isOne (fault n) = false
+
+-- words that come to a record stand from the first byte on
+one-first : (first : Bool) (ws : List (List ℕ)) (r : ResourceRecord) → contentOf first ws ≡ one r → first ≡ true
+unfolding contentOf isOne
+one-first first [] r e = absurd (false≢true (ap isOne e))
+one-first true (o ∷ ws) r e = refl
+one-first false (o ∷ ws) r e = absurd (false≢true (ap isOne e))
 
 module _ (t : List ℕ) (at : ℕ) where
   -- how the entry at at ends, and what its words come to
@@ -81,12 +93,12 @@ module _ (t : List ℕ) (at : ℕ) where
 
   pub record-to-end : (r : ResourceRecord) → content ≡ one r → ends ≡ atEnd → EntryIs t at (record { content = the-variants.Record; «record» = held r; next = length t })
   record-to-end r c e =
-      record { on = λ h. h; within = omega arith; content = (r, refl, with-text e ∙ ap (λ (x : Content). followed x (length t - at) (read (drop (length t) t))) c) }
+      record { on = λ h. h; within = omega arith; content = (r, refl, with-text e ∙ ap (λ (x : Content). followed x (length t - at) (read (drop (length t) t))) c, one-first _ _ r c) }
 
   pub record-to-line : (r : ResourceRecord) (next : ℕ) → content ≡ one r → ends ≡ atLine (drop next t) → at < next → next ≤ length t
       → EntryIs t at (record { content = the-variants.Record; «record» = held r; next = next })
   record-to-line r next c e on within =
-      record { on = λ h. on; within = within; content = (r, refl, at-line next e on within ∙ ap (λ (x : Content). followed x (next - at) (read (drop next t))) c) }
+      record { on = λ h. on; within = within; content = (r, refl, at-line next e on within ∙ ap (λ (x : Content). followed x (next - at) (read (drop next t))) c, one-first _ _ r c) }
 
   pub shape-fault : ends ≡ atFault → EntryIs t at (faultBefore entryShape (length t))
   unfolding faultBefore

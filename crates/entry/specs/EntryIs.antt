@@ -7,7 +7,7 @@ use lib.ListN.{length, drop}
 use Rattle.base.specs.Refusal.{entryShape}
 use Rattle.name.specs.Name.{padded}
 use Rattle.dhcid_text.specs.DhcidReading.{zeroFilled}
-use Rattle.grammar.specs.Listing.{ResourceRecord}
+use Rattle.grammar.specs.Listing.{isWordByte, begins, ResourceRecord}
 use Rattle.grammar.proofs.Scan.{plain, Ending, atEnd, atLine, atFault, scan}
 use Rattle.grammar.proofs.Reader.{wrong, after, shifted, read}
 use Rattle.words.specs.NextIs.{depthOf}
@@ -40,10 +40,12 @@ faultBefore n next = record { content = the-variants.Fault n; «record» = noRec
 unfoldable pub faultyFrom : List ℕ → ℕ → Bool → ℕ → Entry
 faultyFrom t at d n = faultBefore (cond (notAtFault (scan plain (depthOf d) (drop at t) .ending)) n entryShape) (length t)
 
--- what the text t comes to from at on: by the content of the entry that begins there, with its record, and by the text after it
+-- what the text t comes to from at on: by the content of the entry that begins there, with its record, and by the text after it; a record's first byte is a
+-- word's, the owner's
 abbrev pub ContentIs : List ℕ → ℕ → Content → Record → ℕ → Type 0
 ContentIs t at the-variants.Nothing r next = (r ≡ noRecord) × (read (drop at t) ≡ shifted (next - at) (read (drop next t)))
-ContentIs t at the-variants.Record r next = (rr : ResourceRecord) × (r ≡ held rr) × (read (drop at t) ≡ after rr (shifted (next - at) (read (drop next t))))
+ContentIs t at the-variants.Record r next =
+    (rr : ResourceRecord) × (r ≡ held rr) × (read (drop at t) ≡ after rr (shifted (next - at) (read (drop next t)))) × (begins isWordByte (drop at t) ≡ true)
 ContentIs t at (the-variants.Fault n) r next = (r ≡ noRecord) × (next ≡ length t) × (read (drop at t) ≡ wrong [] n 0)
 
 -- the entry e begins at at, and ends before the next one

@@ -1,19 +1,25 @@
--- From what sweeps have found to the first fault of the records. Assumes nothing.
+-- From what sweeps have found to the first fault of a listing and of its records. Assumes nothing.
 use Prim.Native.Nat.{ℕ, _-_, _≤_, _<_}
-use mathlib.Core.Path.{_≡_, refl, subst}
+use mathlib.Core.Bool.{Bool, true, false, true≢false}
+use mathlib.Core.Path.{_≡_, refl, sym, ap, subst}
 use mathlib.Core.Logic.{⊎-elim, inl, inr}
 use mathlib.Core.List.{List}
 use native.Mathlib.Omega.{arith}
 use lib.ListN.{length}
-use Rattle.base.specs.Refusal.{recordRepeated, tableFull}
+use Rattle.base.specs.Refusal.{listingLong, recordRepeated, tableFull}
+use Rattle.base.specs.declared.Answer.{Answer}
+use Rattle.base.specs.declared.Answer.the-variants.{Accepted, Refused}
 use Rattle.grammar.specs.Listing.{ResourceRecord}
-use Rattle.listing.specs.Giving.{end, Gives}
-use Rattle.records.specs.Calls.{recordTests}
+use Rattle.listing.specs.Reading.{limit}
+use Rattle.listing.specs.Giving.{Last, end, refusal, Gives, too-long, whole, faulty}
 use Rattle.records.specs.Gathered.{Single, owners}
-use Rattle.table.specs.Calls.{Judged}
-use Rattle.table_fault.specs.Sweeping.{Beyond, Sweeps, RepeatOrFull}
+use Rattle.table_fault.specs.Sweeping.{Beyond, Sweeps, RepeatOrFull, faultOr, Judges}
 use Rattle.table_fault.specs.declared.Outcome.{Outcome}
 use Rattle.table_fault.specs.declared.Outcome.the-variants as outcome
+
+isEnd : Last → Bool
+isEnd end = true
+isEnd (refusal n p) = false
 
 -- of the records rs as much is known as of those that are left from `at` on
 pub record Sought (t : List ℕ) (at : ℕ) (rs : List ResourceRecord) : Type 0 where
@@ -25,18 +31,23 @@ pub record Sought (t : List ℕ) (at : ℕ) (rs : List ResourceRecord) : Type 0 
 pub sought-none : (t : List ℕ) (at : ℕ) (rs : List ResourceRecord) → Gives t at rs end → Sought t at rs
 sought-none t at rs g = record { left = rs; gives = g; forth = λ h. h; back = λ h. h }
 
-module _ (t : List ℕ) (at : ℕ) (rs : List ResourceRecord) (s : Sought t at rs) (o : Outcome) (sweeps : Sweeps t at 64 (s .left) o) where
-  pub sought-repeat : o ≡ outcome.Repeat → RepeatOrFull rs recordRepeated
+module _ (t : List ℕ) (at : ℕ) (rs : List ResourceRecord) (s : Sought t at rs) (o : Outcome) (sweeps : Sweeps t at 64 (s .left) end o) where
+  pub sought-repeat : (next : ℕ) → o ≡ outcome.Repeat next → RepeatOrFull rs recordRepeated
   unfolding RepeatOrFull
-  sought-repeat e = let h = subst (Sweeps t at 64 (s .left)) e sweeps in inl (refl, λ single. h (s .back single))
+  sought-repeat next e = let h = subst (Sweeps t at 64 (s .left) end) e sweeps in inl (refl, λ single. h .0 (s .back single))
 
   pub sought-whole : o ≡ outcome.Whole → RepeatOrFull rs tableFull
   unfolding RepeatOrFull
-  sought-whole e = let h = subst (Sweeps t at 64 (s .left)) e sweeps in inr (refl, s .forth (h .0))
+  sought-whole e = let h = subst (Sweeps t at 64 (s .left) end) e sweeps in inr (refl, s .forth (h .1))
+
+  -- no entry is faulty
+  pub sought-fault : (n p : ℕ) → o ≡ outcome.Fault n p → ⊥
+  unfolding isEnd
+  sought-fault n p e = true≢false (ap isEnd (subst (Sweeps t at 64 (s .left) end) e sweeps))
 
   module _ (next : ℕ) (e : o ≡ outcome.Beyond next) where
     beyond : Beyond t at 64 (s .left) next
-    beyond = subst (Sweeps t at 64 (s .left)) e sweeps
+    beyond = subst (Sweeps t at 64 (s .left) end) e sweeps .1
 
     pub sought-on : length t - next < length t - at
     sought-on = omega (arith, beyond .on, beyond .within)
@@ -47,18 +58,24 @@ module _ (t : List ℕ) (at : ℕ) (rs : List ResourceRecord) (s : Sought t at r
 -- ---- the whole listing
 
 module _ (rs : List ResourceRecord) where
-  pub judged-repeat : (Single rs → ⊥) → Judged (recordTests 64 rs) recordRepeated
-  judged-repeat h = inr (λ e. omega arith, inl (h, refl))
+  pub judges-repeat : (l : Last) (r : Answer) → (Single rs → ⊥) → r ≡ faultOr recordRepeated l → Judges rs l r
+  judges-repeat end r h e = inr (recordRepeated, e, inl (h, refl))
+  judges-repeat (refusal n p) r h e = e
 
-  pub judged-whole : Single rs × (length (owners rs) ≤ 64) → Judged (recordTests 64 rs) 0
-  judged-whole h = inl (refl, (h .0, (h .1, tt)))
+  pub judges-fault : (l : Last) (n p : ℕ) → l ≡ refusal n p → Judges rs l (Refused n p)
+  judges-fault l n p e = subst (λ (x : Last). Judges rs x (Refused n p)) (sym e) refl
 
-  pub judged-beyond : (n : ℕ) → 64 < length (owners rs) → RepeatOrFull rs n → Judged (recordTests 64 rs) n
+  pub judges-whole : (l : Last) → (l ≡ end) × Single rs × (length (owners rs) ≤ 64) → Judges rs l (Accepted 0)
+  judges-whole l (e, single, few) = subst (λ (x : Last). Judges rs x (Accepted 0)) (sym e) (inl (refl, (single, (few, tt))))
+
+  -- of those that are left as much is to be asked as of all
+  pub judges-beyond : (t : List ℕ) (l : Last) (at n : ℕ) (r : Answer) → l ≡ end → (b : Beyond t 0 64 rs at) → RepeatOrFull (b .left) n → r ≡ Refused n 0 → Judges rs l r
   unfolding RepeatOrFull
-  judged-beyond n many h =
-      ⊎-elim (λ w. inr (λ e. omega (arith, w .0), inl (w .1, w .0))) (λ w. inr (λ e. omega (arith, w .0), inr (w .1, inl (λ few. omega arith, w .0)))) h
+  judges-beyond t l at n r e b h answered =
+      subst (λ (x : Last). Judges rs x r) (sym e)
+      (⊎-elim (λ w. inr (n, answered, inl (λ single. w .1 (b .back single), w .0))) (λ w. inr (n, answered, inr (b .forth (w .1), inl (λ few. omega (arith, b .many), w .0)))) h)
 
--- two records are alike among those left exactly if they are among all
-pub repeat-or-full-by : (t : List ℕ) (at n : ℕ) (rs : List ResourceRecord) (b : Beyond t 0 64 rs at) → RepeatOrFull (b .left) n → RepeatOrFull rs n
-unfolding RepeatOrFull
-repeat-or-full-by t at n rs b h = ⊎-elim (λ w. inl (w .0, λ single. w .1 (b .back single))) (λ w. inr (w .0, b .forth (w .1))) h
+pub judges-long : (t : List ℕ) (rs : List ResourceRecord) (l : Last) (r : Answer) → limit < length t → Gives t 0 rs l → r ≡ Refused listingLong 0 → Judges rs l r
+judges-long t rs l r over (too-long h) e = e
+judges-long t rs l r over (whole fits s) e = absurd (omega arith)
+judges-long t rs l r over (faulty fits f p) e = absurd (omega arith)

@@ -11,14 +11,10 @@ use lib.ListN.{length, take, drop, getD}
 use lib.Seq.{drop-cons}
 use borrow.Author.Tests.{ne-eqb}
 use Rattle.base.specs.Logic.{Decides}
-use Rattle.base.proofs.Tests.{decides-as}
-use Rattle.grammar.specs.Listing.{ResourceRecord}
-use Rattle.listing.specs.Giving.{end, Gives}
-use Rattle.entry.specs.EntryIs.{held}
-use Rattle.entry.specs.declared.Record.{Record}
-use Rattle.name.specs.Name.{canonical}
-use Rattle.writer.proofs.PlaceLaws.{owner-held}
-use Rattle.table_fault.specs.Sweeping.{hashed, mark, typeBit, Kept, NotBefore, IndexOf}
+use Rattle.name.specs.Name.{Proper}
+use Rattle.name.proofs.WireLaws.{proper-short}
+use Rattle.table_fault.specs.Sweeping.{hashed, tagged, mark, typeBit, BeginsWith, KeptName, Kept, KeptSome, NotBefore, IndexOf}
+use Rattle.table_fault.proofs.WordLaws.{owner-proper, begins-within}
 
 -- one byte more
 pub hashed-more : (n : List ℕ) (h i : ℕ) → i < length n → hashed h (drop i n) ≡ hashed ((h * 31 + getD n i 0) % 2 ^ 32) (drop (i + 1) n)
@@ -28,13 +24,16 @@ hashed-more n h i more = rw (add-one, drop-cons n i 0 more) refl
 pub other-bit : (n : ℕ) → (n ≡ 1 → ⊥) → (n ≡ 28 → ⊥) → 4 ≡ typeBit n
 other-bit n f g = sym (λ i. cond (ne-eqb n 1 f i) 1 (cond (ne-eqb n 28 g i) 2 4))
 
--- the bytes of a place have the name n as their owner exactly if the record has it
-pub owner-decided : (p : Record) (r : ResourceRecord) (n : List ℕ) (b : Bool) → p ≡ held r → canonical n ≡ n
-    → Decides b (canonical n ≡ take (p .«owner_len») (p .owner)) → Decides b (r .owner ≡ n)
-unfolding held
-owner-decided p r n b h low d =
-    let own : take (p .«owner_len») (p .owner) ≡ r .owner = ap (λ (q : Record). take (q .«owner_len») (q .owner)) h ∙ owner-held (r .owner) in
-    decides-as (λ e. sym (sym low ∙ e ∙ own)) (λ e. low ∙ sym e ∙ sym own) d
+-- ---- a mark tells the length
+
+low-part : (a x : ℕ) → x < 256 → (a * 256 + x) % 256 ≡ x
+low-part a x small = omega arith
+
+pub mark-length : (n m : List ℕ) → mark n ≡ mark m → length n ≤ 255 → length m ≤ 255 → length n ≡ length m
+unfolding mark tagged
+mark-length n m e short small =
+    let low = sym (low-part (hashed 0 (take 32 n) % 2 ^ 24) (length n % 256) (omega arith)) ∙ ap (λ (v : ℕ). v % 256) e ∙ low-part (hashed 0 (take 32 m) % 2 ^ 24) (length m % 256) (omega arith) in
+    omega arith
 
 -- ---- the search
 
@@ -77,7 +76,19 @@ module _ (t starts marks : List ℕ) (used : ℕ) (n : List ℕ) where
               not-here ns n i (p .other ns long kept) (λ e. let k = kept i (omega arith) in differs (k .marked ∙ ap mark e));
         }
 
-    module _ (b : Bool) (decides : (r : ResourceRecord) (rs : List ResourceRecord) → Gives t (getD starts i 0) (r ∷ rs) end → Decides b (r .owner ≡ n)) (more : i < used) where
+    -- the same mark, and so the same length: the text is compared
+    module _ (proper : Proper n) (same : getD marks i 0 ≡ mark n) (more : i < used) where
+      kept-length : (m : List ℕ) → KeptName t (getD starts i 0) (getD marks i 0) m → length m ≡ length n
+      kept-length m k = mark-length m n (sym (k .marked) ∙ same) (proper-short m (owner-proper (k .there .word) m (k .there .owner))) (proper-short n proper)
+
+      pub kept-within : KeptSome t starts marks used → getD starts i 0 + length n ≤ length t + 1
+      unfolding KeptSome Kept
+      kept-within (ns, long, kept) =
+          let k = kept i (omega arith) in
+          omega (arith, kept-length (getD ns i []) k, begins-within t (getD starts i 0) (getD ns i []) (k .there))
+
+    module _ (proper : Proper n) (same : getD marks i 0 ≡ mark n) (b : Bool)
+        (decides : (m : List ℕ) → BeginsWith (drop (getD starts i 0) t) m → length m ≡ length n → Decides b (m ≡ n)) (more : i < used) where
       pub passed-owner : b ≡ false → Passed t starts marks used n (i + 1)
       unfolding Kept
       passed-owner f =
@@ -85,13 +96,13 @@ module _ (t starts marks : List ℕ) (used : ℕ) (n : List ℕ) where
             low = omega arith;
             other = λ ns long kept.
                 let k = kept i (omega arith) in
-                not-here ns n i (p .other ns long kept) (λ e. decides (k .first) (k .later) (k .gives) .if-false f (k .name ∙ e));
+                not-here ns n i (p .other ns long kept) (decides (getD ns i []) (k .there) (kept-length proper same more (getD ns i []) k) .if-false f);
           }
 
       pub is-there : b ≡ true → (ns : List (List ℕ)) → used ≡ length ns → Kept t starts marks ns → IndexOf ns n i
       unfolding Kept
       is-there y ns long kept =
-          let k = kept i (omega arith) in found-there ns n i (omega arith) (sym (k .name) ∙ decides (k .first) (k .later) (k .gives) .if-true y)
+          let k = kept i (omega arith) in found-there ns n i (omega arith) (decides (getD ns i []) (k .there) (kept-length proper same more (getD ns i []) k) .if-true y)
 
     pub is-nowhere : used ≤ i → (ns : List (List ℕ)) → used ≡ length ns → Kept t starts marks ns → IndexOf ns n i
     is-nowhere all ns long kept = found-nowhere ns n i used long (p .low) all (p .other ns long kept)

@@ -1,3 +1,6 @@
+pub mod LabelLaws
+pub mod WordLaws
+pub mod GivenLaws
 pub mod KeptLaws
 pub mod TypeLaws
 pub mod LookLaws

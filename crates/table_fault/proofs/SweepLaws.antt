@@ -1,44 +1,22 @@
 -- A sweep over the records of a listing: what is known after each record, and what the whole comes to. Assumes nothing.
 use Prim.Native.Nat.{ℕ, _+_, _/_, _%_, _≤_, _<_}
-use mathlib.Core.Bool.{Bool, true, false, cond, true≢false, false≢true}
-use mathlib.Core.Path.{_≡_, refl, sym, ap, subst, _∙_}
+use mathlib.Core.Bool.{Bool, true, false, cond}
+use mathlib.Core.Path.{_≡_, refl, sym, ap, subst, subst₂, _∙_}
 use mathlib.Core.Logic.{⊎-elim}
 use mathlib.Core.List.{List, [], _∷_, _++_, append-nil}
 use native.Mathlib.Omega.{arith}
-use lib.ListN.{length, getD, set}
+use lib.ListN.{length, getD}
 use borrow.Author.Tests.{eq-eqb, ne-eqb}
 use Rattle.grammar.specs.Listing.{RecordType, ResourceRecord}
-use Rattle.entry.specs.Parts.{number}
-use Rattle.listing.specs.Giving.{end, Gives}
+use Rattle.listing.specs.Giving.{Last, end, Gives}
 use Rattle.records.specs.Gathered.{dataOf, Single, owners}
 use Rattle.records.proofs.DataLaws.{length-data-append, of-is, data-same}
 use Rattle.records.proofs.OwnerLaws.{among, by-among, owners-none, owners-more-by-new, no-data}
-use Rattle.table_fault.specs.Sweeping.{mark, typeBit, Kept, IndexOf, SeenIs, Beyond, Sweeps, endedAt}
+use Rattle.table_fault.specs.Sweeping.{Kept, IndexOf, Met, Sweeps, endedAt}
 use Rattle.table_fault.specs.declared.Outcome.the-variants as outcome
 use Rattle.table_fault.specs.declared.Seen.{Seen}
 use Rattle.table_fault.proofs.IndexLaws.{among-at, nowhere-among}
 use Rattle.table_fault.proofs.TypeLaws.{many, Flagged, flagged-each, flagged-twice}
-
--- ---- the record that stands next
-
-pub record Met (t : List ℕ) (at : ℕ) (ns : List (List ℕ)) (ahead : List ResourceRecord) (s : Seen) : Type 0 where
-  pub head : ResourceRecord
-  pub later : List ResourceRecord
-  pub order : ahead ≡ head ∷ later
-  pub on : at < s .next
-  pub gives : Gives t (s .next) later end
-  pub there : IndexOf ns (head .owner) (s .index)
-  pub marked : s .mark ≡ mark (head .owner)
-  pub bit : s .bit ≡ typeBit (number (head .rtype))
-
-module _ (t : List ℕ) (at : ℕ) (ns : List (List ℕ)) (s : Seen) where
-  pub met : (ahead : List ResourceRecord) → SeenIs t at ns ahead s → s .found ≡ true → Met t at ns ahead s
-  met [] (e, done, g) q = absurd (false≢true (sym e ∙ q))
-  met (r ∷ rs) (e, on, g, there, marked, bit) q = record { head = r; later = rs; order = refl; on = on; gives = g; there = there; marked = marked; bit = bit }
-
-  pub none-met : (ahead : List ResourceRecord) → SeenIs t at ns ahead s → s .found ≡ false → ahead ≡ []
-  none-met [] e q = refl
-  none-met (r ∷ rs) h q = absurd (true≢false (sym (h .0) ∙ q))
 
 -- an index below the number of names is the name's; any other is their number, and the name is new
 pub index-known : (ns : List (List ℕ)) (n : List ℕ) (i : ℕ) → IndexOf ns n i → i < length ns → getD ns i [] ≡ n
@@ -51,14 +29,14 @@ index-new ns n i h le = ⊎-elim (λ w. absurd (omega (arith, w .0))) (λ w. (w 
 
 -- ---- what is known after each record
 
-module _ (t : List ℕ) (from : ℕ) where
+module _ (t : List ℕ) (from : ℕ) (l : Last) where
   -- every name was kept; or the first record that could not be is that at `rest`, with others after it
   pub data Left (before after ahead : List ResourceRecord) (used rest : ℕ) : Type 0 where
     all-kept : rest ≡ length t → after ≡ [] → Left before after ahead used rest
     some-left : (r : ResourceRecord) (qs : List ResourceRecord) → after ≡ r ∷ qs → among (r .owner) (owners before) ≡ false → 64 ≤ used
-        → Gives t rest (after ++ ahead) end → from < rest → rest < length t → Left before after ahead used rest
+        → Gives t rest (after ++ ahead) l → from < rest → rest < length t → Left before after ahead used rest
 
-  -- of the records rs those seen are behind, and those ahead are given from `at` on. The names of the records `before` are kept
+  -- of the records rs, after which l comes, those seen are behind, and those ahead are given from `at` on. The names of the records `before` are kept
   pub record Swept (rs : List ResourceRecord) (starts marks types : List ℕ) (used rest at : ℕ) : Type 0 where
     pub seen : List ResourceRecord
     pub ahead : List ResourceRecord
@@ -66,7 +44,7 @@ module _ (t : List ℕ) (from : ℕ) where
     pub after : List ResourceRecord
     pub order : rs ≡ seen ++ ahead
     pub parts : seen ≡ before ++ after
-    pub gives : Gives t at ahead end
+    pub gives : Gives t at ahead l
     pub kept : Kept t starts marks (owners before)
     pub long : used ≡ length (owners before)
     pub room : used ≤ 64
@@ -81,7 +59,7 @@ module _ (t : List ℕ) (from : ℕ) where
   no-names : (k : ℕ) → k < length (owners []) → ⊥
   no-names k lt = omega (arith, ap length owners-none)
 
-  pub swept-none : (rs : List ResourceRecord) (starts marks types : List ℕ) → Gives t from rs end → length starts ≡ 64 → length marks ≡ 64 → length types ≡ 64
+  pub swept-none : (rs : List ResourceRecord) (starts marks types : List ℕ) → Gives t from rs l → length starts ≡ 64 → length marks ≡ 64 → length types ≡ 64
       → Swept rs starts marks types 0 (length t) from
   unfolding Kept
   swept-none rs starts marks types g s m ty =
@@ -107,23 +85,27 @@ module _ (t : List ℕ) (from : ℕ) where
 
   module _ {rs : List ResourceRecord} {starts marks types : List ℕ} {used rest at : ℕ} (w : Swept rs starts marks types used rest at) where
     -- two records alike: the one that stands next, and one that was seen
-    pub repeated : (s : Seen) → Met t at (owners (w .before)) (w .ahead) s → s .index < used → getD types (s .index) 0 / s .bit % 2 ≡ 1 → Single rs → ⊥
+    twice : (s : Seen) → Met t at (owners (w .before)) (w .ahead) l s → s .index < used → getD types (s .index) 0 / s .bit % 2 ≡ 1 → Single rs → ⊥
     unfolding Single
-    repeated s m lt set single =
+    twice s m lt set single =
         let r = m .head in
         let own = index-known (owners (w .before)) (r .owner) (s .index) (m .there) (omega (arith, w .long)) in
         let f = w .flags (s .index) lt in
         let flagged : Flagged (r .owner) (w .seen) (getD types (s .index) 0) = subst (λ (n : List ℕ). Flagged n (w .seen) (getD types (s .index) 0)) own f in
         let one = flagged-twice (r .owner) (w .seen) r flagged (r .rtype) (ap (λ (b : ℕ). getD types (s .index) 0 / b % 2) (sym (m .bit)) ∙ set) in
-        let all = ap (many (r .owner) (r .rtype)) (w .order ∙ ap (λ (l : List ResourceRecord). w .seen ++ l) (m .order)) in
+        let all = ap (many (r .owner) (r .rtype)) (w .order ∙ ap (λ (x : List ResourceRecord). w .seen ++ x) (m .order)) in
         let two = length-data-append (r .owner) (r .rtype) (w .seen) (r ∷ m .later) in
         let here = ap length (data-same (r .owner) (r .rtype) r (m .later) (of-is (r .owner) (r .rtype) r refl refl)) in
         omega (arith, single (r .owner) (r .rtype), one, all, two, here)
 
+    pub repeated : (s : Seen) → Met t at (owners (w .before)) (w .ahead) l s → s .index < used → getD types (s .index) 0 / s .bit % 2 ≡ 1
+        → Sweeps t from 64 rs l (outcome.Repeat (s .next))
+    repeated s m lt set = (twice s m lt set, (m .later, m .gives))
+
     -- nothing is ahead: every name was kept, and no two records are alike; or some are left, and it depends on them
-    module _ (over : w .ahead ≡ []) where
+    module _ (over : w .ahead ≡ []) (last : l ≡ end) where
       all-seen : rs ≡ w .seen
-      all-seen = w .order ∙ ap (λ (l : List ResourceRecord). w .seen ++ l) over ∙ append-nil (w .seen)
+      all-seen = w .order ∙ ap (λ (x : List ResourceRecord). w .seen ++ x) over ∙ append-nil (w .seen)
 
       kept-single : (n : List ℕ) (k : RecordType) → among n (owners (w .before)) ≡ true → many n k rs ≤ 1
       kept-single n k h =
@@ -148,27 +130,29 @@ module _ (t : List ℕ) (from : ℕ) where
       unfolding Single dataOf
       none-single n k = omega arith
 
-      whole-sweeps : rest ≡ length t → w .after ≡ [] → Sweeps t from 64 rs outcome.Whole
+      whole-sweeps : rest ≡ length t → w .after ≡ [] → Sweeps t from 64 rs l outcome.Whole
       whole-sweeps e none =
-          let all : rs ≡ w .before = all-seen ∙ w .parts ∙ ap (λ (l : List ResourceRecord). w .before ++ l) none ∙ append-nil (w .before) in
-          (single-by (subst Single (sym none) none-single), omega (arith, w .long, w .room, ap (λ (l : List ResourceRecord). length (owners l)) all))
+          let all : rs ≡ w .before = all-seen ∙ w .parts ∙ ap (λ (x : List ResourceRecord). w .before ++ x) none ∙ append-nil (w .before) in
+          (last, single-by (subst Single (sym none) none-single), omega (arith, w .long, w .room, ap (λ (x : List ResourceRecord). length (owners x)) all))
 
-      ended-by : Left (w .before) (w .after) (w .ahead) used rest → Sweeps t from 64 rs (endedAt (length t) rest)
+      ended-by : Left (w .before) (w .after) (w .ahead) used rest → Sweeps t from 64 rs l (endedAt (length t) rest)
       unfolding Single
-      ended-by (Left.all-kept e none) = subst (Sweeps t from 64 rs) (sym (ap (λ (b : Bool). cond b outcome.Whole (outcome.Beyond rest)) (eq-eqb rest (length t) e))) (whole-sweeps e none)
+      ended-by (Left.all-kept e none) = subst (Sweeps t from 64 rs l) (sym (ap (λ (b : Bool). cond b outcome.Whole (outcome.Beyond rest)) (eq-eqb rest (length t) e))) (whole-sweeps e none)
       ended-by (Left.some-left r qs e new full g on within) =
           let not-end : rest ≡ length t → ⊥ = λ x. omega arith in
-          subst (Sweeps t from 64 rs) (sym (ap (λ (b : Bool). cond b outcome.Whole (outcome.Beyond rest)) (ne-eqb rest (length t) not-end)))
-          (record {
-            left = w .after;
-            gives = subst (λ (l : List ResourceRecord). Gives t rest l end) (ap (λ (l : List ResourceRecord). w .after ++ l) over ∙ append-nil (w .after)) g;
-            on = on;
-            within = within;
-            forth = single-by;
-            back = λ single n k. omega (arith, single n k, no-more n k);
-            many =
-                omega (arith, w .long, owners-more-by-new (w .before) r qs new, ap (λ (l : List ResourceRecord). length (owners l)) (all-seen ∙ w .parts ∙ ap (λ (l : List ResourceRecord). w .before ++ l) e));
-          })
+          subst (Sweeps t from 64 rs l) (sym (ap (λ (b : Bool). cond b outcome.Whole (outcome.Beyond rest)) (ne-eqb rest (length t) not-end))) (
+            last,
+            record {
+              left = w .after;
+              gives = subst₂ (Gives t rest) (ap (λ (x : List ResourceRecord). w .after ++ x) over ∙ append-nil (w .after)) last g;
+              on = on;
+              within = within;
+              forth = single-by;
+              back = λ single n k. omega (arith, single n k, no-more n k);
+              many =
+                  omega (arith, w .long, owners-more-by-new (w .before) r qs new, ap (λ (x : List ResourceRecord). length (owners x)) (all-seen ∙ w .parts ∙ ap (λ (x : List ResourceRecord). w .before ++ x) e));
+            },
+          )
 
-      pub ended-sweeps : Sweeps t from 64 rs (endedAt (length t) rest)
+      pub ended-sweeps : Sweeps t from 64 rs l (endedAt (length t) rest)
       ended-sweeps = ended-by (w .left)

@@ -1,25 +1,25 @@
 -- One record more in a sweep: its name is kept already, is kept now, or cannot be. Assumes nothing.
 use Prim.Native.Nat.{ℕ, _+_, _/_, _%_, _≤_, _<_}
 use mathlib.Core.Bool.{Bool, true, false, true≢false}
-use mathlib.Core.Path.{_≡_, refl, sym, ap, subst, _∙_}
+use mathlib.Core.Path.{_≡_, refl, sym, ap, subst, subst₂, _∙_}
 use mathlib.Core.Logic.{⊎-elim}
 use mathlib.Core.List.{List, [], _∷_, _++_, append-assoc, append-nil}
 use native.Mathlib.Nat.{zero-add, eq-or-lt-of-le}
 use native.Mathlib.Omega.{arith}
 use lib.Dec.{eqb}
-use lib.ListN.{length, getD, set, length-set, length-append, List·getD-append}
+use lib.ListN.{length, drop, getD, set, length-set, length-append, List·getD-append}
 use lib.Seq.{getD-set-same, getD-set-other, getD-at, append-snoc}
 use borrow.Author.Tests.{eqb-true, eqb-false}
 use Rattle.grammar.specs.Listing.{RecordType, ResourceRecord}
 use Rattle.entry.specs.Parts.{number}
-use Rattle.listing.specs.Giving.{end, Gives}
+use Rattle.listing.specs.Giving.{Last, Gives}
 use Rattle.records.specs.Gathered.{dataOf, owners}
 use Rattle.records.proofs.OwnerLaws.{among, owners-known, owners-new, owners-distinct, no-data}
-use Rattle.table_fault.specs.Sweeping.{mark, typeBit, KeptName, Kept}
+use Rattle.table_fault.specs.Sweeping.{mark, typeBit, BeginsWith, KeptName, Kept, Met}
 use Rattle.table_fault.specs.declared.Seen.{Seen}
 use Rattle.table_fault.proofs.IndexLaws.{at-among, distinct-at}
 use Rattle.table_fault.proofs.TypeLaws.{Flagged, flagged-none, flagged-more, flagged-other}
-use Rattle.table_fault.proofs.SweepLaws.{Met, index-known, index-new, Left, all-kept, some-left, Swept}
+use Rattle.table_fault.proofs.SweepLaws.{index-known, index-new, Left, all-kept, some-left, Swept}
 
 -- no flag is set in 0
 unset : (k : RecordType) → 0 / typeBit (number k) % 2 ≡ 1 → ⊥
@@ -31,8 +31,32 @@ unset RecordType.DHCID e = omega arith
 moved-on : (a b : List ResourceRecord) (r : ResourceRecord) (l ahead : List ResourceRecord) → a ≡ b ++ ahead → ahead ≡ r ∷ l → a ≡ b ++ r ∷ [] ++ l
 moved-on a b r l ahead e o = e ∙ ap (λ (x : List ResourceRecord). b ++ x) o ∙ sym (append-snoc b r l)
 
-module _ (t : List ℕ) (from : ℕ) {rs : List ResourceRecord} {starts marks types : List ℕ} {used rest at : ℕ} (w : Swept t from rs starts marks types used rest at)
-    (s : Seen) (m : Met t at (owners (w .before)) (w .ahead) s) where
+-- an entry that is no record
+pub swept-still : (t : List ℕ) (from : ℕ) (l : Last) {rs : List ResourceRecord} {starts marks types : List ℕ} {used rest at : ℕ} (w : Swept t from l rs starts marks types used rest at)
+    (next : ℕ) → at < next → Gives t next (w .ahead) l → Swept t from l rs starts marks types used rest next
+swept-still t from l w next further g =
+    record {
+      seen = w .seen;
+      ahead = w .ahead;
+      before = w .before;
+      after = w .after;
+      order = w .order;
+      parts = w .parts;
+      gives = g;
+      kept = w .kept;
+      long = w .long;
+      room = w .room;
+      flags = w .flags;
+      on = omega (arith, w .on);
+      moved = λ some. omega (arith, w .on);
+      left = w .left;
+      starts-size = w .starts-size;
+      marks-size = w .marks-size;
+      types-size = w .types-size;
+    }
+
+module _ (t : List ℕ) (from : ℕ) (l : Last) {rs : List ResourceRecord} {starts marks types : List ℕ} {used rest at : ℕ} (w : Swept t from l rs starts marks types used rest at)
+    (s : Seen) (further : at < s .next) (m : Met t at (owners (w .before)) (w .ahead) l s) where
   abbrev r : ResourceRecord
   r = m .head
 
@@ -47,18 +71,18 @@ module _ (t : List ℕ) (from : ℕ) {rs : List ResourceRecord} {starts marks ty
 
   -- the record goes behind those that are left
   parts-left : seen′ ≡ w .before ++ (w .after ++ r ∷ [])
-  parts-left = ap (λ (l : List ResourceRecord). l ++ r ∷ []) (w .parts) ∙ append-assoc (w .before) (w .after) (r ∷ [])
+  parts-left = ap (λ (x : List ResourceRecord). x ++ r ∷ []) (w .parts) ∙ append-assoc (w .before) (w .after) (r ∷ [])
 
-  later-left : (rest : ℕ) → Gives t rest (w .after ++ w .ahead) end → Gives t rest (w .after ++ r ∷ [] ++ m .later) end
-  later-left rest g = subst (λ (l : List ResourceRecord). Gives t rest l end) (moved-on (w .after ++ w .ahead) (w .after) r (m .later) (w .ahead) refl (m .order)) g
+  later-left : (rest : ℕ) → Gives t rest (w .after ++ w .ahead) l → Gives t rest (w .after ++ r ∷ [] ++ m .later) l
+  later-left rest g = subst (λ (x : List ResourceRecord). Gives t rest x l) (moved-on (w .after ++ w .ahead) (w .after) r (m .later) (w .ahead) refl (m .order)) g
 
   -- or behind those whose names are kept
   parts-kept : w .after ≡ [] → seen′ ≡ w .before ++ r ∷ [] ++ []
   parts-kept none =
-      ap (λ (l : List ResourceRecord). l ++ r ∷ []) (w .parts ∙ ap (λ (l : List ResourceRecord). w .before ++ l) none ∙ append-nil (w .before)) ∙ sym (append-nil (w .before ++ r ∷ []))
+      ap (λ (x : List ResourceRecord). x ++ r ∷ []) (w .parts ∙ ap (λ (x : List ResourceRecord). w .before ++ x) none ∙ append-nil (w .before)) ∙ sym (append-nil (w .before ++ r ∷ []))
 
-  gives-here : Gives t at (r ∷ m .later) end
-  gives-here = subst (λ (l : List ResourceRecord). Gives t at l end) (m .order) (w .gives)
+  gives-here : Gives t at (r ∷ m .later) l
+  gives-here = subst (λ (x : List ResourceRecord). Gives t at x l) (m .order) (w .gives)
 
   -- ---- the name is kept already, and has no record of that type
 
@@ -94,7 +118,7 @@ module _ (t : List ℕ) (from : ℕ) {rs : List ResourceRecord} {starts marks ty
         go true e = subst (λ (k : ℕ). Flagged (getD ns k []) seen′ (getD types′ k 0)) (sym (eqb-true j i e)) flags-own
         go false e = flags-else j lj (eqb-false j i e)
 
-    known-by : Left t from (w .before) (w .after) (w .ahead) used rest → Swept t from rs starts marks types′ used rest (s .next)
+    known-by : Left t from l (w .before) (w .after) (w .ahead) used rest → Swept t from l rs starts marks types′ used rest (s .next)
     known-by (all-kept e none) =
         let same = owners-known (w .before) r known in
         record {
@@ -109,8 +133,8 @@ module _ (t : List ℕ) (from : ℕ) {rs : List ResourceRecord} {starts marks ty
           long = w .long ∙ ap length (sym same);
           room = w .room;
           flags = λ j lj. subst (λ (l : List (List ℕ)). Flagged (getD l j []) seen′ (getD types′ j 0)) (sym same) (flags-known j lj);
-          on = omega (arith, w .on, m .on);
-          moved = λ some. omega (arith, w .on, m .on);
+          on = omega (arith, w .on, further);
+          moved = λ some. omega (arith, w .on, further);
           left = all-kept e refl;
           starts-size = w .starts-size;
           marks-size = w .marks-size;
@@ -129,15 +153,15 @@ module _ (t : List ℕ) (from : ℕ) {rs : List ResourceRecord} {starts marks ty
           long = w .long;
           room = w .room;
           flags = flags-known;
-          on = omega (arith, w .on, m .on);
-          moved = λ some. omega (arith, w .on, m .on);
-          left = some-left q (qs ++ r ∷ []) (ap (λ (l : List ResourceRecord). l ++ r ∷ []) e) new full (later-left rest g) on within;
+          on = omega (arith, w .on, further);
+          moved = λ some. omega (arith, w .on, further);
+          left = some-left q (qs ++ r ∷ []) (ap (λ (x : List ResourceRecord). x ++ r ∷ []) e) new full (later-left rest g) on within;
           starts-size = w .starts-size;
           marks-size = w .marks-size;
           types-size = length-set types i (getD types i 0 + s .bit) ∙ w .types-size;
         }
 
-    pub swept-known : Swept t from rs starts marks types′ used rest (s .next)
+    pub swept-known : Swept t from l rs starts marks types′ used rest (s .next)
     swept-known = known-by (w .left)
 
   -- ---- the name is new
@@ -157,10 +181,10 @@ module _ (t : List ℕ) (from : ℕ) {rs : List ResourceRecord} {starts marks ty
       is-full : 64 ≤ used
       is-full = omega (arith, w .long, new-there .0)
 
-      pub swept-beyond : rest ≡ length t → Swept t from rs starts marks types used at (s .next)
+      pub swept-beyond : rest ≡ length t → Swept t from l rs starts marks types used at (s .next)
       swept-beyond e = go (w .left)
         where
-          go : Left t from (w .before) (w .after) (w .ahead) used rest → Swept t from rs starts marks types used at (s .next)
+          go : Left t from l (w .before) (w .after) (w .ahead) used rest → Swept t from l rs starts marks types used at (s .next)
           go (some-left q qs a new f g on inside) = absurd (omega arith)
           go (all-kept a none) =
               record {
@@ -169,24 +193,24 @@ module _ (t : List ℕ) (from : ℕ) {rs : List ResourceRecord} {starts marks ty
                 before = w .before;
                 after = r ∷ [];
                 order = order′;
-                parts = parts-left ∙ ap (λ (l : List ResourceRecord). w .before ++ (l ++ r ∷ [])) none;
+                parts = parts-left ∙ ap (λ (x : List ResourceRecord). w .before ++ (x ++ r ∷ [])) none;
                 gives = m .gives;
                 kept = w .kept;
                 long = w .long;
                 room = w .room;
                 flags = flags-new;
-                on = omega (arith, w .on, m .on);
-                moved = λ some. omega (arith, w .on, m .on);
+                on = omega (arith, w .on, further);
+                moved = λ some. omega (arith, w .on, further);
                 left = some-left r [] refl (new-there .1) is-full gives-here (w .moved (omega (arith, is-full))) within;
                 starts-size = w .starts-size;
                 marks-size = w .marks-size;
                 types-size = w .types-size;
               }
 
-      pub swept-past : (rest ≡ length t → ⊥) → Swept t from rs starts marks types used rest (s .next)
+      pub swept-past : (rest ≡ length t → ⊥) → Swept t from l rs starts marks types used rest (s .next)
       swept-past d = go (w .left)
         where
-          go : Left t from (w .before) (w .after) (w .ahead) used rest → Swept t from rs starts marks types used rest (s .next)
+          go : Left t from l (w .before) (w .after) (w .ahead) used rest → Swept t from l rs starts marks types used rest (s .next)
           go (all-kept a none) = absurd (d a)
           go (some-left q qs a new f g on inside) =
               record {
@@ -201,9 +225,9 @@ module _ (t : List ℕ) (from : ℕ) {rs : List ResourceRecord} {starts marks ty
                 long = w .long;
                 room = w .room;
                 flags = flags-new;
-                on = omega (arith, w .on, m .on);
-                moved = λ some. omega (arith, w .on, m .on);
-                left = some-left q (qs ++ r ∷ []) (ap (λ (l : List ResourceRecord). l ++ r ∷ []) a) new f (later-left rest g) on inside;
+                on = omega (arith, w .on, further);
+                moved = λ some. omega (arith, w .on, further);
+                left = some-left q (qs ++ r ∷ []) (ap (λ (x : List ResourceRecord). x ++ r ∷ []) a) new f (later-left rest g) on inside;
                 starts-size = w .starts-size;
                 marks-size = w .marks-size;
                 types-size = w .types-size;
@@ -223,7 +247,7 @@ module _ (t : List ℕ) (from : ℕ) {rs : List ResourceRecord} {starts marks ty
       index-is : s .index ≡ used
       index-is = omega (arith, w .long, new-there .0)
 
-      none-left : Left t from (w .before) (w .after) (w .ahead) used rest → (rest ≡ length t) × (w .after ≡ [])
+      none-left : Left t from l (w .before) (w .after) (w .ahead) used rest → (rest ≡ length t) × (w .after ≡ [])
       none-left (all-kept a none) = (a, none)
       none-left (some-left q qs a new f g on inside) = absurd (omega (arith, index-is))
 
@@ -246,13 +270,13 @@ module _ (t : List ℕ) (from : ℕ) {rs : List ResourceRecord} {starts marks ty
           let k = w .kept j (omega (arith, w .long)) in
           let a = getD-set-other starts (s .index) j at 0 (apart j lj) in
           let b = getD-set-other marks (s .index) j (s .mark) 0 (apart j lj) in
-          record { first = k .first; later = k .later; gives = subst (λ (x : ℕ). Gives t x (k .first ∷ k .later) end) (sym a) (k .gives); name = k .name ∙ sym (at-old j lj); marked = b ∙ k .marked ∙ ap mark (sym (at-old j lj)) }
+          record { there = subst₂ (λ (x : ℕ) (n : List ℕ). BeginsWith (drop x t) n) (sym a) (sym (at-old j lj)) (k .there); marked = b ∙ k .marked ∙ ap mark (sym (at-old j lj)) }
 
       kept-new : KeptName t (getD starts″ (s .index) 0) (getD marks″ (s .index) 0) (getD (ns ++ r .owner ∷ []) (s .index) [])
       kept-new =
           let a = getD-set-same starts (s .index) at 0 (omega (arith, w .starts-size)) in
           let b = getD-set-same marks (s .index) (s .mark) 0 (omega (arith, w .marks-size)) in
-          record { first = r; later = m .later; gives = subst (λ (x : ℕ). Gives t x (r ∷ m .later) end) (sym a) gives-here; name = sym at-new; marked = b ∙ m .marked ∙ ap mark (sym at-new) }
+          record { there = subst₂ (λ (x : ℕ) (n : List ℕ). BeginsWith (drop x t) n) (sym a) (sym at-new) (m .owner); marked = b ∙ m .marked ∙ ap mark (sym at-new) }
 
       by-index : {P : ℕ → Type 0} → ((j : ℕ) → j < used → P j) → P (s .index) → (j : ℕ) → j < s .index + 1 → P j
       by-index {P} old new j lj =
@@ -266,13 +290,13 @@ module _ (t : List ℕ) (from : ℕ) {rs : List ResourceRecord} {starts marks ty
 
       flags-first : w .after ≡ [] → Flagged (getD (ns ++ r .owner ∷ []) (s .index) []) seen′ (getD types″ (s .index) 0)
       flags-first none =
-          let before : w .seen ≡ w .before = w .parts ∙ ap (λ (l : List ResourceRecord). w .before ++ l) none ∙ append-nil (w .before) in
-          let f = flagged-more (r .owner) (w .seen) r refl (flagged-none (r .owner) (w .seen) (λ k. subst (λ (l : List ResourceRecord). dataOf (r .owner) k l ≡ []) (sym before) (no-data (r .owner) k (w .before) (new-there .1)))) (unset (r .rtype)) in
+          let before : w .seen ≡ w .before = w .parts ∙ ap (λ (x : List ResourceRecord). w .before ++ x) none ∙ append-nil (w .before) in
+          let f = flagged-more (r .owner) (w .seen) r refl (flagged-none (r .owner) (w .seen) (λ k. subst (λ (x : List ResourceRecord). dataOf (r .owner) k x ≡ []) (sym before) (no-data (r .owner) k (w .before) (new-there .1)))) (unset (r .rtype)) in
           let v : 0 + typeBit (number (r .rtype)) ≡ getD types″ (s .index) 0 =
           zero-add (typeBit (number (r .rtype))) ∙ sym (m .bit) ∙ sym (getD-set-same types (s .index) (s .bit) 0 (omega (arith, w .types-size))) in
           subst (λ (n : List ℕ). Flagged n seen′ (getD types″ (s .index) 0)) (sym at-new) (subst (Flagged (r .owner) seen′) v f)
 
-      pub swept-new : Swept t from rs starts″ marks″ types″ (s .index + 1) rest (s .next)
+      pub swept-new : Swept t from l rs starts″ marks″ types″ (s .index + 1) rest (s .next)
       unfolding Kept
       swept-new =
           let none = none-left (w .left) in
@@ -289,8 +313,8 @@ module _ (t : List ℕ) (from : ℕ) {rs : List ResourceRecord} {starts marks ty
             long = long;
             room = omega arith;
             flags = λ j lj. subst (λ (l : List (List ℕ)). Flagged (getD l j []) seen′ (getD types″ j 0)) (sym now-named) (by-index flags-old (flags-first (none .1)) j lj);
-            on = omega (arith, w .on, m .on);
-            moved = λ some. omega (arith, w .on, m .on);
+            on = omega (arith, w .on, further);
+            moved = λ some. omega (arith, w .on, further);
             left = all-kept (none .0) refl;
             starts-size = length-set starts (s .index) at ∙ w .starts-size;
             marks-size = length-set marks (s .index) (s .mark) ∙ w .marks-size;

@@ -1,46 +1,68 @@
-// Do the records of a listing make a table? None may stand twice, by owner and type (refusal 35), and there may be no more names than the table has slots (32). A
-// sweep over the records keeps the first 64 names that it meets, by the offset of their first entry, and which types each has: 832 bytes, and no copy of a name. What it
-// could not keep is swept again from the first such record on, so that n names take n / 64 sweeps.
+// Is a listing right, and do its records make a table? No record may stand twice, by owner and type (refusal 35), and there may be no more names than the table has slots
+// (32). One sweep reads every entry and keeps the first 64 names that it meets, by the offset of their first entry, where the owner stands in text, and which types each
+// has: 576 bytes, and no copy of a name. What it could not keep is swept again from the first such record on, so that n names take n / 64 sweeps.
+use base::Answer;
+use base::refusal::LISTING_LONG;
 use base::refusal::RECORD_REPEATED;
 use base::refusal::TABLE_FULL;
+use entry::Content;
 use entry::TYPE_A;
 use entry::TYPE_AAAA;
-use listing::Found;
-use listing::step_at;
+use entry::read_entry;
+use grammar::LISTING_LIMIT;
 use name::wire::matches;
 ghost use mathlib.Core.Path.{_≡_};
-ghost use mathlib.Core.List.{List, _∷_};
-ghost use Prim.Native.Nat.{ℕ, _+_, _*_, _%_, _^_, _≤_};
-ghost use lib.ListN.{length};
+ghost use mathlib.Core.List.{List};
+ghost use Prim.Native.Nat.{ℕ, _+_, _*_, _%_, _^_, _≤_, _<_};
+ghost use lib.ListN.{length, drop};
 ghost use Rattle.base.specs.Logic.{Decides};
 ghost use Rattle.grammar.specs.Listing.{ResourceRecord};
-ghost use Rattle.listing.specs.Giving.{end, Gives};
-ghost use Rattle.name.specs.Name.{canonical};
-ghost use Rattle.records.specs.Calls.{recordTests};
-ghost use Rattle.table.specs.Calls.{Judged};
+ghost use Rattle.listing.specs.Giving.{Last, end, Gives};
+ghost use Rattle.name.specs.Name.{Proper, canonical};
+ghost use Rattle.name.specs.Promise.{textOf};
 ghost use Rattle.table_fault.specs.Sweeping as spec;
 
 // How many names a sweep keeps: as many as a table has.
 const KEPT: usize = 64;
 
-// The number of a name with one byte more.
-fn marked(h: u32, b: u8) -> u32
+// How many bytes of a name go into its number at most.
+const MARKED: usize = 32;
+
+const DOT: u8 = 46;
+
+// The number of some bytes with one byte more.
+fn hashed(h: u32, b: u8) -> u32
     ensures { λ r. ⌜ r ≡ (h * 31 + b) % 2 ^ 32 ⌝ }
 {
     ((h as u64 * 31 + b as u64) % 4294967296) as u32
 }
 
-// A number for a name. Most names that differ differ in it.
-fn mark(name: &[u8]) -> u32
-    ensures { λ r. ⌜ r ≡ spec.mark (now (name .entry)) ⌝ }
+fn hash(bytes: &[u8]) -> u32
+    ensures { λ r. ⌜ r ≡ spec.hashed 0 (now (bytes .entry)) ⌝ }
 {
     let mut h: u32 = 0;
     let mut i: usize = 0;
-    while i < name.len() {
-        h = marked(h, name[i]);
+    while i < bytes.len() {
+        h = hashed(h, bytes[i]);
         i += 1;
     }
     h
+}
+
+fn tagged(h: u32, len: usize) -> u32
+    ensures { λ r. ⌜ r ≡ spec.tagged h len ⌝ }
+{
+    h % 16777216 * 256 + (len % 256) as u32
+}
+
+// A number for a name, from its length and its first bytes. Names of other lengths differ in it, and most others do.
+fn mark(name: &[u8]) -> u32
+    ensures { λ r. ⌜ r ≡ spec.mark (now (name .entry)) ⌝ }
+{
+    if MARKED < name.len() {
+        return tagged(hash(&name[..MARKED]), name.len());
+    }
+    tagged(hash(name), name.len())
 }
 
 // The flag of a record type, as in a slot.
@@ -54,27 +76,52 @@ fn type_bit(rtype: u8) -> u8
     }
 }
 
-// Is this, in canonical form, the owner of the record that stands next from `at` on?
-fn is_owner(text: &[u8], at: usize, name: &[u8]) -> bool
-    requires { ⌜ canonical (now name) ≡ now name ⌝ }
-    ensures { λ b. ⌜ ((r : ResourceRecord) (rs : List ResourceRecord) → Gives (now (text .entry)) at (r ∷ rs) end → Decides b (r .owner ≡ now (name .entry))) ⌝ }
+fn wide(b: u8) -> usize
+    ensures { λ r. ⌜ (r ≡ b) × (r ≤ 255) ⌝ }
 {
-    let step = step_at(text, at);
-    let len = step.record.owner_len as usize;
-    let bytes = step.record.owner;
-    let owner: &[u8] = &bytes;
-    matches(name, &owner[..len])
+    b as usize
+}
+
+// Is the word, in any case, the text of the name? Label by label: a label stands in text one byte before its place in wire form, and its dot where the next length stands.
+fn is_text_of(word: &[u8], name: &[u8]) -> bool
+    requires { ⌜ length (now word) + 1 ≡ length (now name) ⌝ }
+    ensures { λ b. ⌜ Decides b (canonical (now (word .entry)) ≡ textOf (now (name .entry))) ⌝ }
+{
+    let mut at: usize = 0;
+    while at < word.len() {
+        let end = at + wide(name[at]);
+        if word.len() <= end {
+            return matches(&word[at..], &name[at + 1..]);
+        }
+        if word[end] != DOT {
+            return false;
+        }
+        if !matches(&word[at..end], &name[at + 1..end + 1]) {
+            return false;
+        }
+        at = end + 1;
+    }
+    true
+}
+
+// Is the name that stands at `at`, of the same length, this one?
+fn is_owner(text: &[u8], at: usize, name: &[u8]) -> bool
+    requires { ⌜ (Proper (now name)) × (at + length (now name) ≤ length (now text) + 1) ⌝ }
+    ensures { λ b. ⌜ ((n : List ℕ) → spec.BeginsWith (drop at (now (text .entry))) n → length n ≡ length (now (name .entry)) → Decides b (n ≡ now (name .entry))) ⌝ }
+{
+    let end = at + (name.len() - 1);
+    is_text_of(&text[at..end], name)
 }
 
 // Where a name stands among those that are kept; how many they are, if it does not.
-fn index_of(text: &[u8], starts: &[usize], marks: &[u32], used: usize, m: u32, name: &[u8]) -> usize
-    requires { ⌜ (used ≤ length (now starts)) × (used ≤ length (now marks)) × (canonical (now name) ≡ now name) × (m ≡ spec.mark (now name)) ⌝ }
+fn index_of(text: &[u8], starts: &[u32], marks: &[u32], used: usize, m: u32, name: &[u8]) -> usize
+    requires { ⌜ (used ≤ length (now starts)) × (used ≤ length (now marks)) × (spec.KeptSome (now text) (now starts) (now marks) used) × (Proper (now name)) × (m ≡ spec.mark (now name)) ⌝ }
     ensures { λ r. ⌜ ((ns : List (List ℕ)) → used ≡ length ns → spec.Kept (now (text .entry)) (now (starts .entry)) (now (marks .entry)) ns → spec.IndexOf ns (now (name .entry)) r) ⌝ }
 {
     let mut i: usize = 0;
     while i < used {
         if marks[i] == m {
-            if is_owner(text, starts[i], name) {
+            if is_owner(text, starts[i] as usize, name) {
                 return i;
             }
         }
@@ -83,33 +130,37 @@ fn index_of(text: &[u8], starts: &[usize], marks: &[u32], used: usize, m: u32, n
     i
 }
 
-// What stands next in a listing, with where its name stands among those that are kept.
+// What an entry is: faulty, with the number of its fault; a record, with where its name stands among those that are kept; or neither.
 pub struct Seen {
     pub next: usize,
     pub index: usize,
     pub mark: u32,
+    pub number: u32,
     pub bit: u8,
     pub found: bool,
+    pub faulty: bool,
 }
 
-// What a sweep came to: two records alike, none alike and all names kept; or, of the names that it kept, none alike, and the first record of another name at an offset.
+// What a sweep came to: a faulty entry; two records alike, and where it stopped; none alike and all names kept; or, of the names that it kept, none alike, and the first
+// record of another name at an offset.
 pub enum Outcome {
-    Repeat,
+    Fault { number: u32, offset: u32 },
+    Repeat(usize),
     Whole,
     Beyond(usize),
 }
 
-// What stands next from `at` on, in a listing that is right.
-fn look(text: &[u8], at: usize, starts: &[usize], marks: &[u32], used: usize) -> Seen
-    requires { ⌜ (used ≤ length (now starts)) × (used ≤ length (now marks)) × (spec.Right (now text) at) ⌝ }
-    ensures { λ s. ⌜ ((ns : List (List ℕ)) (rs : List ResourceRecord) → used ≡ length ns → spec.Kept (now (text .entry)) (now (starts .entry)) (now (marks .entry)) ns → Gives (now (text .entry)) at rs end → spec.SeenIs (now (text .entry)) at ns rs s) ⌝ }
+// The entry that begins at `at`.
+fn look(text: &[u8], at: usize, starts: &[u32], marks: &[u32], used: usize) -> Seen
+    requires { ⌜ (length (now text) ≤ 65536) × (at < length (now text)) × (used ≤ length (now starts)) × (used ≤ length (now marks)) × (spec.KeptSome (now text) (now starts) (now marks) used) ⌝ }
+    ensures { λ s. ⌜ ((ns : List (List ℕ)) → used ≡ length ns → spec.Kept (now (text .entry)) (now (starts .entry)) (now (marks .entry)) ns → spec.SeenIs (now (text .entry)) at ns s) ⌝ }
 {
-    let step = step_at(text, at);
-    let record = step.record;
-    let next = step.next;
-    let found = step.found;
-    match found {
-        Found::Record => {
+    let entry = read_entry(text, at);
+    let record = entry.record;
+    let next = entry.next;
+    let content = entry.content;
+    match content {
+        Content::Record => {
             let owner: &[u8] = &record.owner;
             let len = record.owner_len as usize;
             let m = mark(&owner[..len]);
@@ -117,17 +168,29 @@ fn look(text: &[u8], at: usize, starts: &[usize], marks: &[u32], used: usize) ->
                 next: next,
                 index: index_of(text, starts, marks, used, m, &owner[..len]),
                 mark: m,
+                number: 0,
                 bit: type_bit(record.rtype),
                 found: true,
+                faulty: false,
             }
         }
-        // the end; a refusal never, since the listing is right
-        _ => Seen {
+        Content::Nothing => Seen {
             next: next,
             index: used,
             mark: 0,
+            number: 0,
             bit: 0,
             found: false,
+            faulty: false,
+        },
+        Content::Fault(number) => Seen {
+            next: next,
+            index: used,
+            mark: 0,
+            number: number,
+            bit: 0,
+            found: false,
+            faulty: true,
         },
     }
 }
@@ -142,12 +205,12 @@ fn ended(length: usize, rest: usize) -> Outcome
     Outcome::Beyond(rest)
 }
 
-// Goes over all records from `from` on, in a listing that is right.
+// Reads all entries from `from` on, and looks at their records.
 fn sweep(text: &[u8], from: usize) -> Outcome
-    requires { ⌜ spec.Right (now text) from ⌝ }
-    ensures { λ r. ⌜ ((rs : List ResourceRecord) → Gives (now (text .entry)) from rs end → spec.Sweeps (now (text .entry)) from 64 rs r) ⌝ }
+    requires { ⌜ length (now text) ≤ 65536 ⌝ }
+    ensures { λ r. ⌜ ((rs : List ResourceRecord) (l : Last) → Gives (now (text .entry)) from rs l → spec.Sweeps (now (text .entry)) from 64 rs l r) ⌝ }
 {
-    let mut starts = [0usize; KEPT];
+    let mut starts = [0u32; KEPT];
     let mut marks = [0u32; KEPT];
     let mut types = [0u8; KEPT];
     let mut used: usize = 0;
@@ -155,53 +218,91 @@ fn sweep(text: &[u8], from: usize) -> Outcome
     let mut at = from;
     while at < text.len() {
         let seen = look(text, at, &starts, &marks, used);
-        if !seen.found {
-            return ended(text.len(), rest);
+        if seen.faulty {
+            return Outcome::Fault {
+                number: seen.number,
+                offset: at as u32,
+            };
         }
         let here = at;
         let i = seen.index;
         let bit = seen.bit;
         at = seen.next;
-        if i < used {
-            if types[i] / bit % 2 == 1 {
-                return Outcome::Repeat;
+        if seen.found {
+            if i < used {
+                if types[i] / bit % 2 == 1 {
+                    return Outcome::Repeat(at);
+                }
+                types[i] = types[i] + bit;
+            } else if i < KEPT {
+                starts[i] = here as u32;
+                marks[i] = seen.mark;
+                types[i] = bit;
+                used = i + 1;
+            } else if rest == text.len() {
+                rest = here;
             }
-            types[i] = types[i] + bit;
-        } else if i < KEPT {
-            starts[i] = here;
-            marks[i] = seen.mark;
-            types[i] = bit;
-            used = i + 1;
-        } else if rest == text.len() {
-            rest = here;
         }
     }
     ended(text.len(), rest)
 }
 
-// There are more names than a table has: 32, unless two records are alike, here from `from` on, which comes first.
+// There are more names than a table has: 32, unless two records are alike, here from `from` on, which comes first. The listing is right.
 fn fault_beyond(text: &[u8], from: usize) -> u32
-    requires { ⌜ spec.Right (now text) from ⌝ }
+    requires { ⌜ (length (now text) ≤ 65536) × (spec.Right (now text) from) ⌝ }
     ensures { λ r. ⌜ ((rs : List ResourceRecord) → Gives (now (text .entry)) from rs end → spec.RepeatOrFull rs r) ⌝ }
 {
     let mut at = from;
     loop {
         match sweep(text, at) {
-            Outcome::Repeat => return RECORD_REPEATED,
+            Outcome::Repeat(_) => return RECORD_REPEATED,
             Outcome::Whole => return TABLE_FULL,
             Outcome::Beyond(next) => at = next,
+            // never
+            Outcome::Fault { number, .. } => return number,
         }
     }
 }
 
-// The first fault of the records of a listing that is right: 35, 32; 0 where there is none.
-pub fn fault_of(text: &[u8]) -> u32
-    requires { ⌜ spec.Right (now text) 0 ⌝ }
-    ensures { λ r. ⌜ ((rs : List ResourceRecord) → Gives (now (text .entry)) 0 rs end → Judged (recordTests 64 rs) r) ⌝ }
+// Two records are alike: 35, unless an entry from `from` on is faulty, which comes first.
+fn fault_after(text: &[u8], from: usize) -> Answer
+    requires { ⌜ length (now text) ≤ 65536 ⌝ }
+    ensures { λ r. ⌜ ((rs : List ResourceRecord) (l : Last) → Gives (now (text .entry)) from rs l → r ≡ spec.faultOr 35 l) ⌝ }
 {
+    let mut at = from;
+    while at < text.len() {
+        let entry = read_entry(text, at);
+        let next = entry.next;
+        let content = entry.content;
+        match content {
+            Content::Nothing => {}
+            Content::Record => {}
+            Content::Fault(number) => {
+                return Answer::Refused {
+                    number: number,
+                    offset: at as u32,
+                };
+            }
+        }
+        at = next;
+    }
+    Answer::refused(RECORD_REPEATED)
+}
+
+// Reads a listing and answers 0 where its records make a table. Refusals: 17, and 20 to 24 with the offset of the faulty entry; 35; 32.
+pub fn judge(text: &[u8]) -> Answer
+    ensures { λ r. ⌜ ((rs : List ResourceRecord) (l : Last) → Gives (now (text .entry)) 0 rs l → spec.Judges rs l r) ⌝ }
+{
+    if LISTING_LIMIT < text.len() {
+        return Answer::refused(LISTING_LONG);
+    }
     match sweep(text, 0) {
-        Outcome::Repeat => RECORD_REPEATED,
-        Outcome::Whole => 0,
-        Outcome::Beyond(at) => fault_beyond(text, at),
+        Outcome::Fault { number, offset } => Answer::Refused {
+            number: number,
+            offset: offset,
+        },
+        Outcome::Repeat(at) => fault_after(text, at),
+        Outcome::Whole => Answer::Accepted(0),
+        Outcome::Beyond(at) => Answer::refused(fault_beyond(text, at)),
     }
 }

@@ -6,7 +6,6 @@ use entry::Record;
 use entry::TYPE_A;
 use entry::TYPE_AAAA;
 use listing::Found;
-use listing::check;
 use listing::step_at;
 use slots::Rtype;
 use slots::slot;
@@ -16,7 +15,7 @@ use slots::table::SIZE;
 use slots::table::make_empty;
 use table::place::Place;
 use table::place::place_of;
-use table_fault::fault_of;
+use table_fault::judge;
 ghost use mathlib.Core.Path.{_≡_};
 ghost use mathlib.Core.List.{List};
 ghost use Prim.Native.Nat.{_+_, _≤_, _<_};
@@ -31,7 +30,6 @@ ghost use Rattle.slots.specs.Fields.{bare, withField, fieldSize};
 ghost use Rattle.slots.specs.Form.{IsSlot, slotBytes, tableBytes, Sound};
 ghost use Rattle.slots.specs.Promise.{OfSlot, OfTable};
 ghost use Rattle.table.specs.Promise.{slotAt, inSlot};
-ghost use Rattle.table_fault.specs.Sweeping.{Right};
 ghost use Rattle.writer.specs.Line.{Holds};
 ghost use Rattle.table_load.specs.Promise as spec;
 
@@ -133,15 +131,11 @@ fn fill(table: &mut [u8], text: &[u8])
     }
 }
 
-// Loads a listing that is right.
+// Loads a listing whose records make a table.
 fn load_right(table: &mut [u8], text: &[u8]) -> Answer
-    requires { ⌜ Right (now text) 0 ⌝ }
+    requires { ⌜ ((rs : List ResourceRecord) × spec.Loadable (now text) rs) ⌝ }
     ensures { λ r. ⌜ Loads 65536 64 (now (text .entry)) (now (table .entry)) r (now (table .exit)) ⌝ }
 {
-    let fault = fault_of(text);
-    if fault != 0 {
-        return Answer::refused(fault);
-    }
     if table.len() < SIZE {
         return Answer::refused(OUTPUT_SHORT);
     }
@@ -154,7 +148,7 @@ fn load_right(table: &mut [u8], text: &[u8]) -> Answer
 pub fn load(table: &mut [u8], text: &[u8]) -> Answer
     ensures { λ r. ⌜ Loads 65536 64 (now (text .entry)) (now (table .entry)) r (now (table .exit)) ⌝ }
 {
-    match check(text) {
+    match judge(text) {
         Answer::Refused { number, offset } => Answer::Refused {
             number: number,
             offset: offset,

@@ -5,7 +5,7 @@ use borrow.Author.Needs.{needs}
 use Rattle.grammar.specs.Listing.{ResourceRecord}
 use Rattle.listing.specs.Giving.{end, Gives}
 use Rattle.table_fault.specs.Sweeping.{Right}
-use Rattle.table_fault.proofs.FaultLaws.{Sought, sought-none, sought-repeat, sought-whole, sought-on, sought-more}
+use Rattle.table_fault.proofs.FaultLaws.{Sought, sought-none, sought-repeat, sought-whole, sought-fault, sought-on, sought-more}
 use Rattle.table_fault.proofs.fault_beyond.Statement.{statement}
 use Rattle.table_fault.proofs.fault_beyond.Tie as tie
 
@@ -19,31 +19,27 @@ loop-holds : tie.Need-loop-holds Inv-loop μ-loop
 loop-holds c = λ rs g. sought-none _ _ rs g
 
 sweep-requires : tie.Need-sweep-requires Inv-loop μ-loop
-unfolding Right
-sweep-requires c κs =
-    let p = c .before .before .pre in
-    let s = c .loop .inv (p .0) (p .1) in
-    (s .left, s .gives)
+sweep-requires c κs = c .before .before .pre .0
 
 enum-told : tie.Need-enum-told Inv-loop μ-loop
 enum-told c = search needs
 
 returns : tie.Need-returns Inv-loop μ-loop
 returns c =
-    let k = c .before .before in
+    let k = c .before .before .sweep in
     λ rs g.
-    let s = k .before .loop .inv rs g in
-    sought-repeat _ _ rs s (k .sweep .result) (k .sweep .ensures (s .left) (s .gives)) (c .enum-told .given .1)
+    let s = c .before .before .before .loop .inv rs g in
+    sought-repeat _ _ rs s (k .result) (k .ensures (s .left) end (s .gives)) _ (c .enum-told .given .1)
 
 enum-told-2 : tie.Need-enum-told-2 Inv-loop μ-loop
 enum-told-2 c = search needs
 
 returns-2 : tie.Need-returns-2 Inv-loop μ-loop
 returns-2 c =
-    let k = c .before .before in
+    let k = c .before .before .sweep in
     λ rs g.
-    let s = k .before .loop .inv rs g in
-    sought-whole _ _ rs s (k .sweep .result) (k .sweep .ensures (s .left) (s .gives)) (c .enum-told2 .given .1)
+    let s = c .before .before .before .loop .inv rs g in
+    sought-whole _ _ rs s (k .result) (k .ensures (s .left) end (s .gives)) (c .enum-told2 .given .1)
 
 enum-known-next : tie.Need-enum-known-next Inv-loop μ-loop
 enum-known-next c = search needs
@@ -51,17 +47,27 @@ enum-known-next c = search needs
 loop-less : tie.Need-loop-less Inv-loop μ-loop
 unfolding Right
 loop-less c =
-    let k = c .before .before .before in
-    let p = k .before .before .before .pre in
-    let s = k .before .loop .inv (p .0) (p .1) in
-    sought-on _ _ (p .0) s (k .sweep .result) (k .sweep .ensures (s .left) (s .gives)) _ (c .before .next .given .1)
+    let k = c .before .before .before .sweep in
+    let p = c .before .before .before .before .before .before .pre .1 in
+    let s = c .before .before .before .before .loop .inv (p .0) (p .1) in
+    sought-on _ _ (p .0) s (k .result) (k .ensures (s .left) end (s .gives)) _ (c .before .next .given .1)
 
 loop-again : tie.Need-loop-again Inv-loop μ-loop
 loop-again c =
-    let k = c .before .before .before in
+    let k = c .before .before .before .sweep in
     λ rs g.
-    let s = k .before .loop .inv rs g in
-    sought-more _ _ rs s (k .sweep .result) (k .sweep .ensures (s .left) (s .gives)) _ (c .before .next .given .1)
+    let s = c .before .before .before .before .loop .inv rs g in
+    sought-more _ _ rs s (k .result) (k .ensures (s .left) end (s .gives)) _ (c .before .next .given .1)
+
+enum-known-number : tie.Need-enum-known-number Inv-loop μ-loop
+enum-known-number c = search needs
+
+returns-3 : tie.Need-returns-3 Inv-loop μ-loop
+returns-3 c =
+    let k = c .before .before .before .sweep in
+    λ rs g.
+    let s = c .before .before .before .before .loop .inv rs g in
+    absurd (sought-fault _ _ rs s (k .result) (k .ensures (s .left) end (s .gives)) _ _ (c .before .number .given .1))
 
 pub fault-beyond-spec : {M : Type 1} → statement M
 fault-beyond-spec =
@@ -77,4 +83,6 @@ fault-beyond-spec =
     returns-2
     enum-known-next
     loop-less
-    loop-again)
+    loop-again
+    enum-known-number
+    returns-3)

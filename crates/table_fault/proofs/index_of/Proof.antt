@@ -3,7 +3,7 @@ use mathlib.Core.Path.{sym, _∙_}
 use mathlib.Core.Logic.{⊎-elim}
 use native.Mathlib.Omega.{arith}
 use borrow.Author.Needs.{needs}
-use Rattle.table_fault.proofs.KeptLaws.{Passed, passed-none, passed-mark, passed-owner, is-there, is-nowhere}
+use Rattle.table_fault.proofs.KeptLaws.{Passed, passed-none, passed-mark, passed-owner, kept-within, is-there, is-nowhere}
 use Rattle.table_fault.proofs.index_of.Statement.{statement}
 use Rattle.table_fault.proofs.index_of.Tie as tie
 
@@ -28,14 +28,23 @@ mul-is-owner c = search needs
 shared-slice-read-is-owner : tie.Need-shared-slice-read-is-owner Inv-loop μ-loop
 shared-slice-read-is-owner c = search needs
 
+cast-is-owner : tie.Need-cast-is-owner Inv-loop μ-loop
+cast-is-owner c =
+    let l = c .before .before .before .before .loop in
+    let a = c .before .before .before .before .before .before .before .before .before in
+    omega (arith, kept-within _ _ _ _ _ (l .i) (l .inv) (a .pre .3) (c .before .if1 .taken ∙ a .pre .4) (c .before .before .before .loop-test .taken) (a .pre .2))
+
 is-owner-requires : tie.Need-is-owner-requires Inv-loop μ-loop
-is-owner-requires c κs = search needs
+is-owner-requires c κs =
+    let l = c .before .before .before .before .loop in
+    let a = c .before .before .before .before .before .before .before .before .before in
+    (a .pre .3, kept-within _ _ _ _ _ (l .i) (l .inv) (a .pre .3) (c .before .if1 .taken ∙ a .pre .4) (c .before .before .before .loop-test .taken) (a .pre .2))
 
 returns : tie.Need-returns Inv-loop μ-loop
 returns c =
-    let l = c .before .before .before .before .before .before in
-    let s = l .loop .inv in
-    is-there _ _ _ _ _ (l .loop .i) s (c .before .is-owner .result) (c .before .is-owner .ensures) (c .before .before .before .before .before .loop-test .taken) (c .if2 .taken)
+    let l = c .before .before .before .before .before .before .loop in
+    let a = c .before .before .before .before .before .before .before .before .before .before .before in
+    is-there _ _ _ _ _ (l .i) (l .inv) (a .pre .3) (c .before .before .before .if1 .taken ∙ a .pre .4) (c .before .is-owner .result) (c .before .is-owner .ensures) (c .before .before .before .before .before .loop-test .taken) (c .if2 .taken)
 
 add-i : tie.Need-add-i Inv-loop μ-loop
 add-i c = omega arith
@@ -45,19 +54,16 @@ loop-less c = omega arith
 
 loop-again : tie.Need-loop-again Inv-loop μ-loop
 loop-again c =
-    let l = c .before .before .before in
-    let p = l .loop .inv in
+    let l = c .before .before .before .loop in
+    let a = c .before .before .before .before .before .before .before .before in
     let more = c .before .before .loop-test .taken in
-    let marked = l .before .before .before .before .before .pre .3 in
     ⊎-elim
-    (λ w. passed-owner _ _ _ _ _ (l .loop .i) p (w .2 .result) (w .2 .ensures) more (w .3 .left))
-    (λ w. passed-mark _ _ _ _ _ (l .loop .i) p more (λ e. w .left (e ∙ sym marked)))
+    (λ w. passed-owner _ _ _ _ _ (l .i) (l .inv) (a .pre .3) (w .0 .taken ∙ a .pre .4) (w .2 .result) (w .2 .ensures) more (w .3 .left))
+    (λ w. passed-mark _ _ _ _ _ (l .i) (l .inv) more (λ e. w .left (e ∙ sym (a .pre .4))))
     (c .if1 .came)
 
 returns-2 : tie.Need-returns-2 Inv-loop μ-loop
-returns-2 c =
-    let l = c .before in
-    is-nowhere _ _ _ _ _ (l .loop .i) (l .loop .inv) (c .loop-test .left)
+returns-2 c = let l = c .before in is-nowhere _ _ _ _ _ (l .loop .i) (l .loop .inv) (c .loop-test .left)
 
 pub index-of-spec : {M : Type 1} → statement M
 index-of-spec =
@@ -70,6 +76,7 @@ index-of-spec =
     shared-slice-read-if1
     mul-is-owner
     shared-slice-read-is-owner
+    cast-is-owner
     is-owner-requires
     returns
     add-i

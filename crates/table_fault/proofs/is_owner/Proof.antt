@@ -1,49 +1,47 @@
-use mathlib.Core.Path.{_≡_}
-use mathlib.Core.List.{_∷_}
-use denote.Ref.{now}
+use Prim.Native.Nat.{_+_, _-_}
 use native.Mathlib.Omega.{arith}
-use lib.ListN.{length, length-take}
+use mathlib.Core.List.{List}
+use lib.ListN.{length, drop, length-take, length-drop}
 use borrow.Author.Needs.{needs}
-use Rattle.listing.specs.Giving.{end, Answers}
-use Rattle.listing.proofs.Theorems.{step-answers}
-use Rattle.table_fault.proofs.KeptLaws.{owner-decided}
+use Rattle.name.proofs.WireLaws.{proper-some}
+use Rattle.table_fault.proofs.WordLaws.{owner-decided}
 use Rattle.table_fault.proofs.is_owner.Statement.{statement}
 use Rattle.table_fault.proofs.is_owner.Tie as tie
 
-step-at-requires : tie.Need-step-at-requires
-step-at-requires c κs = search needs
+sub-end : tie.Need-sub-end
+sub-end c = let a = c .before .before in omega (arith, proper-some (a .args .name .now) (a .pre .0))
 
-cast-len : tie.Need-cast-len
-cast-len c = search needs
+add-end : tie.Need-add-end
+add-end c = let a = c .before .before in omega (arith, a .pre .1)
 
-slice-aggregate-owner : tie.Need-slice-aggregate-owner
-slice-aggregate-owner c = search needs
+sub-is-text-of : tie.Need-sub-is-text-of
+sub-is-text-of c = omega arith
 
-slice-aggregate-matches : tie.Need-slice-aggregate-matches
-slice-aggregate-matches c =
-    let p = c .before .before .before .before .step-at .result .«record» in
-    let owner : length (p .owner) ≡ 255 = search needs in
-    simp length-take (omega arith)
+part-is-text-of-start : tie.Need-part-is-text-of-start
+part-is-text-of-start c = omega arith
 
-matches-requires : tie.Need-matches-requires
-matches-requires c κs = search needs
+part-is-text-of-end : tie.Need-part-is-text-of-end
+part-is-text-of-end c = let a = c .before .before in omega (arith, a .pre .1, proper-some (a .args .name .now) (a .pre .0))
+
+is-text-of-requires : tie.Need-is-text-of-requires
+is-text-of-requires c κs = let a = c .before .before .before in simp (length-take, length-drop) (omega (arith, a .pre .1, proper-some (a .args .name .now) (a .pre .0)))
 
 returns : tie.Need-returns
-unfolding Answers
 returns c =
-    let k = c .before .before .before .before .before in
-    let a = k .before .before .before .args in
-    λ r rs g.
-    let next = step-answers (now (a .text)) (a .at) (k .step-at .result) (k .step-at .ensures) (r ∷ rs) end g in
-    owner-decided (k .step-at .result .«record») r (now (a .name)) (c .matches .result) (next .1) (k .before .before .before .pre) (c .matches .ensures)
+    let a = c .before .before .before .before in
+    let t = a .args .text .now in
+    let n = a .args .name .now in
+    λ m h long.
+    owner-decided (drop (a .args .at) t) m n h (a .args .at + (length n - 1) - a .args .at) (c .is-text-of .result) (a .pre .0) long (omega (arith, proper-some n (a .pre .0))) (c .is-text-of .ensures)
 
 pub is-owner-spec : {M : Type 1} → statement M
 is-owner-spec =
     tie.close
     (tie.spec
-    step-at-requires
-    cast-len
-    slice-aggregate-owner
-    slice-aggregate-matches
-    matches-requires
+    sub-end
+    add-end
+    sub-is-text-of
+    part-is-text-of-start
+    part-is-text-of-end
+    is-text-of-requires
     returns)

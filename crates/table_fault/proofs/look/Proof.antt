@@ -2,12 +2,12 @@ use mathlib.Core.Path.{_≡_}
 use native.Mathlib.Omega.{arith}
 use lib.ListN.{length, length-take}
 use borrow.Author.Needs.{needs}
-use Rattle.table_fault.proofs.LookLaws.{found-canonical, seen-record, seen-none}
+use Rattle.table_fault.proofs.LookLaws.{found-proper, seen-record, seen-nothing, seen-fault}
 use Rattle.table_fault.proofs.look.Statement.{statement}
 use Rattle.table_fault.proofs.look.Tie as tie
 
-step-at-requires : tie.Need-step-at-requires
-step-at-requires c κs = search needs
+read-entry-requires : tie.Need-read-entry-requires
+read-entry-requires c κs = let a = c .before .before .before in omega (arith, a .pre .1)
 
 enum-told : tie.Need-enum-told
 enum-told c = search needs
@@ -17,7 +17,7 @@ cast-len c = search needs
 
 slice-aggregate-mark : tie.Need-slice-aggregate-mark
 slice-aggregate-mark c =
-    let owner : length (c .before .before .before .before .before .before .before .step-at .result .«record» .owner) ≡ 255 = search needs in
+    let owner : length (c .before .before .before .before .before .before .before .read-entry .result .«record» .owner) ≡ 255 = search needs in
     simp length-take (omega arith)
 
 mark-requires : tie.Need-mark-requires
@@ -25,34 +25,48 @@ mark-requires c κs = search needs
 
 slice-aggregate-index-of : tie.Need-slice-aggregate-index-of
 slice-aggregate-index-of c =
-    let owner : length (c .before .before .before .before .before .before .before .before .before .step-at .result .«record» .owner) ≡ 255 = search needs in
+    let owner : length (c .before .before .before .before .before .before .before .before .before .read-entry .result .«record» .owner) ≡ 255 = search needs in
     simp length-take (omega arith)
 
 index-of-requires : tie.Need-index-of-requires
 index-of-requires c κs =
-    let s = c .before .before .before .before .before .before .before .before .before in
-    let a = s .before .before .before .before in
-    (a .pre .0, a .pre .1, found-canonical _ _ (s .step-at .result) (s .step-at .ensures) (a .pre .2) (c .before .before .before .before .before .before .enum-told .given .1), c .before .mark .ensures)
+    let a = c .before .before .before .before .before .before .before .before .before .before .before .before .before in
+    let e = c .before .before .before .before .before .before .before .before .before .read-entry in
+    (a .pre .2, a .pre .3, a .pre .4, found-proper _ (a .pre .0) _ (a .pre .1) (e .result) (e .ensures) (c .before .before .before .before .before .before .enum-told .given .1), c .before .mark .ensures)
 
 type-bit-requires : tie.Need-type-bit-requires
 type-bit-requires c κs = search needs
 
+enum-told-2 : tie.Need-enum-told-2
+enum-told-2 c = search needs
+
+enum-known-content : tie.Need-enum-known-content
+enum-known-content c = search needs
+
 returns : tie.Need-returns
 returns c =
-    let s = c .before .before .before .before .before .before .before .before .before .before .before in
-    λ ns rs long kept g.
-    seen-record _ _ (s .step-at .result) (s .step-at .ensures) (c .before .before .before .before .before .before .before .before .enum-told .given .1) ns rs g _ _ _ (c .before .index-of .ensures ns long kept) (c .before .before .before .mark .ensures) (c .type-bit .ensures)
+    let a = c .before .before .before .before .before .before .before .before .before .before .before .before .before .before .before in
+    let e = c .before .before .before .before .before .before .before .before .before .before .before .read-entry in
+    λ ns long kept.
+    seen-record _ (a .pre .0) _ (a .pre .1) (e .result) (e .ensures) ns _ _ _ _ (c .before .before .before .before .before .before .before .before .enum-told .given .1) (c .before .index-of .ensures ns long kept) (c .before .before .before .mark .ensures) (c .type-bit .ensures)
 
 returns-2 : tie.Need-returns-2
 returns-2 c =
-    let s = c .before .before in
-    λ ns rs long kept g. seen-none _ _ (s .step-at .result) (s .step-at .ensures) (c .match .keys2) ns rs g _ _ _
+    let a = c .before .before .before .before .before .before .before in
+    let e = c .before .before .before .read-entry in
+    λ ns long kept. seen-nothing _ (a .pre .0) _ (a .pre .1) (e .result) (e .ensures) ns _ _ _ _ (c .enum-told2 .given .1)
+
+returns-3 : tie.Need-returns-3
+returns-3 c =
+    let a = c .before .before .before .before .before .before .before .before in
+    let e = c .before .before .before .before .read-entry in
+    λ ns long kept. seen-fault _ (a .pre .0) _ (a .pre .1) (e .result) (e .ensures) ns _ _ _ _ (c .before .content .given .1)
 
 pub look-spec : {M : Type 1} → statement M
 look-spec =
     tie.close
     (tie.spec
-    step-at-requires
+    read-entry-requires
     enum-told
     cast-len
     slice-aggregate-mark
@@ -60,5 +74,8 @@ look-spec =
     slice-aggregate-index-of
     index-of-requires
     type-bit-requires
+    enum-told-2
+    enum-known-content
     returns
-    returns-2)
+    returns-2
+    returns-3)

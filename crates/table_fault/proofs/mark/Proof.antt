@@ -1,54 +1,44 @@
-use Prim.Native.Nat.{ℕ, _+_, _-_}
-use mathlib.Core.Path.{_≡_, refl, sym, ap, _∙_}
+use Prim.Native.Nat.{ℕ}
+use mathlib.Core.Path.{sym, ap, _∙_}
 use native.Mathlib.Omega.{arith}
-use lib.ListN.{length, drop, drop-of-length-le}
+use lib.ListN.{length, length-take}
+use lib.Seq.{take-all}
 use borrow.Author.Needs.{needs}
-use Rattle.table_fault.specs.Sweeping.{hashed, mark}
-use Rattle.table_fault.proofs.KeptLaws.{hashed-more}
+use Rattle.table_fault.specs.Sweeping.{hashed, tagged, mark}
 use Rattle.table_fault.proofs.mark.Statement.{statement}
 use Rattle.table_fault.proofs.mark.Tie as tie
 
-abbrev Inv-loop : tie.InvT-loop
-Inv-loop name h₀ i₀ h i = hashed 0 name ≡ hashed h (drop i name)
+slice-aggregate-hash : tie.Need-slice-aggregate-hash
+slice-aggregate-hash c = simp length-take (omega arith)
 
-abbrev μ-loop : tie.MeasureT-loop
-μ-loop name h₀ i₀ h i = length name - i
+hash-requires : tie.Need-hash-requires
+hash-requires c κs = search needs
 
-loop-holds : tie.Need-loop-holds Inv-loop μ-loop
-loop-holds c = refl
+tagged-requires : tie.Need-tagged-requires
+tagged-requires c κs = search needs
 
-shared-slice-read-marked : tie.Need-shared-slice-read-marked Inv-loop μ-loop
-shared-slice-read-marked c = search needs
+returns : tie.Need-returns
+unfolding mark
+returns c = let n = c .before .before .before .before .before .args .name .now in c .tagged .ensures ∙ ap (λ (h : ℕ). tagged h (length n)) (c .before .hash .ensures)
 
-marked-requires : tie.Need-marked-requires Inv-loop μ-loop
-marked-requires c κs = search needs
+hash-requires-2 : tie.Need-hash-requires-2
+hash-requires-2 c κs = search needs
 
-add-i : tie.Need-add-i Inv-loop μ-loop
-add-i c = omega arith
+tagged-requires-2 : tie.Need-tagged-requires-2
+tagged-requires-2 c κs = search needs
 
-loop-less : tie.Need-loop-less Inv-loop μ-loop
-loop-less c = omega arith
-
-loop-again : tie.Need-loop-again Inv-loop μ-loop
-loop-again c =
-    let l = c .before .before .before in
-    let name = l .before .before .args .name .now in
-    l .loop .inv ∙ hashed-more name (l .loop .h) (l .loop .i) (omega arith) ∙ ap (λ (h : ℕ). hashed h (drop (l .loop .i + 1) name)) (sym (c .marked .ensures))
-
-returns : tie.Need-returns Inv-loop μ-loop
-unfolding mark hashed
-returns c = sym (c .before .loop .inv ∙ ap (hashed (c .before .loop .h)) (drop-of-length-le _ (c .loop-test .left)))
+returns-2 : tie.Need-returns-2
+unfolding mark
+returns-2 c = let n = c .before .before .before .before .args .name .now in c .tagged2 .ensures ∙ ap (λ (h : ℕ). tagged h (length n)) (c .before .hash2 .ensures ∙ ap (hashed 0) (sym (take-all 32 n (omega arith))))
 
 pub mark-spec : {M : Type 1} → statement M
 mark-spec =
     tie.close
     (tie.spec
-    Inv-loop
-    μ-loop
-    loop-holds
-    shared-slice-read-marked
-    marked-requires
-    add-i
-    loop-less
-    loop-again
-    returns)
+    slice-aggregate-hash
+    hash-requires
+    tagged-requires
+    returns
+    hash-requires-2
+    tagged-requires-2
+    returns-2)

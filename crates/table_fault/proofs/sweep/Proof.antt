@@ -4,130 +4,126 @@ use mathlib.Core.List.{List}
 use native.Mathlib.Omega.{arith}
 use lib.ListN.{length}
 use borrow.Author.Needs.{needs}
-use borrow.Author.Tests.{not-true, not-false}
 use Rattle.grammar.specs.Listing.{ResourceRecord}
-use Rattle.listing.specs.Giving.{end, Gives}
-use Rattle.table_fault.specs.Sweeping.{Right, Sweeps}
-use Rattle.table_fault.proofs.SweepLaws.{Swept, swept-none, met, none-met, repeated, ended-sweeps}
-use Rattle.listing.proofs.NextLaws.{none-beyond}
+use Rattle.listing.specs.Giving.{Last, Gives}
+use Rattle.listing.proofs.Theorems.{some-giving}
+use Rattle.records.specs.Gathered.{owners}
+use Rattle.table_fault.specs.Sweeping.{KeptSome, Sweeps}
+use Rattle.table_fault.proofs.GivenLaws.{end-given}
+use Rattle.table_fault.proofs.SweepLaws.{Swept, swept-none, repeated, ended-sweeps}
 use Rattle.table_fault.proofs.TypeLaws.{bit-some, bit-small, flagged-small}
-use Rattle.table_fault.proofs.TurnLaws.{swept-known, swept-new, swept-beyond, swept-past}
+use Rattle.table_fault.proofs.TurnLaws.{swept-still, swept-known, swept-new, swept-beyond, swept-past}
 use Rattle.table_fault.proofs.sweep.Statement.{statement}
 use Rattle.table_fault.proofs.sweep.Tie as tie
 
 abbrev Inv-loop : tie.InvT-loop
-Inv-loop text from starts₀ marks₀ types₀ used₀ rest₀ at₀ starts marks types used rest at = (rs : List ResourceRecord) → Gives text from rs end → Swept text from rs starts marks types used rest at
+Inv-loop text from starts₀ marks₀ types₀ used₀ rest₀ at₀ starts marks types used rest at = (rs : List ResourceRecord) (l : Last) → Gives text from rs l → Swept text from l rs starts marks types used rest at
 
 abbrev μ-loop : tie.MeasureT-loop
 μ-loop text from starts₀ marks₀ types₀ used₀ rest₀ at₀ starts marks types used rest at = length text - at
 
 loop-holds : tie.Need-loop-holds Inv-loop μ-loop
-loop-holds c = λ rs g. swept-none _ _ rs _ _ _ g (search needs) (search needs) (search needs)
+loop-holds c = λ rs l g. swept-none _ _ l rs _ _ _ g (search needs) (search needs) (search needs)
 
 slice-aggregate-look : tie.Need-slice-aggregate-look Inv-loop μ-loop
-unfolding Right
 slice-aggregate-look c =
-    let l = c .before .before in
-    let p = l .before .before .pre in
-    sym (l .loop .inv (p .0) (p .1) .starts-size)
+    let a = c .before .before .before .before in
+    let g = some-giving (a .args .text .now) (a .args .from) in
+    let w = c .before .before .loop .inv (g .0) (g .1) (g .2) in
+    sym (w .starts-size)
 
 slice-aggregate-look-2 : tie.Need-slice-aggregate-look-2 Inv-loop μ-loop
-unfolding Right
 slice-aggregate-look-2 c =
-    let l = c .before .before .before in
-    let p = l .before .before .pre in
-    sym (l .loop .inv (p .0) (p .1) .marks-size)
+    let a = c .before .before .before .before .before in
+    let g = some-giving (a .args .text .now) (a .args .from) in
+    let w = c .before .before .before .loop .inv (g .0) (g .1) (g .2) in
+    sym (w .marks-size)
 
 look-requires : tie.Need-look-requires Inv-loop μ-loop
-unfolding Right
+unfolding KeptSome
 look-requires c κs =
-    let l = c .before .before .before in
-    let p = l .before .before .pre in
-    let w = l .loop .inv (p .0) (p .1) in
-    (omega (arith, w .room, w .starts-size), omega (arith, w .room, w .marks-size), (w .ahead, w .gives))
+    let a = c .before .before .before .before .before in
+    let g = some-giving (a .args .text .now) (a .args .from) in
+    let w = c .before .before .before .loop .inv (g .0) (g .1) (g .2) in
+    (a .pre, c .before .before .loop-test .taken, omega (arith, w .room, w .starts-size), omega (arith, w .room, w .marks-size), (owners (w .before), w .long, w .kept))
 
-ended-requires : tie.Need-ended-requires Inv-loop μ-loop
-ended-requires c κs = search needs
+cast-t19 : tie.Need-cast-t19 Inv-loop μ-loop
+cast-t19 c = let a = c .before .before .before .before .before .before .before in omega (arith, a .pre)
 
 returns : tie.Need-returns Inv-loop μ-loop
-unfolding Right
 returns c =
-    let k = c .before .before .before .look in
-    λ rs g.
-    let w = c .before .before .before .before .before .before .before .loop .inv rs g in
-    let seen = k .ensures _ (w .ahead) (w .long) (w .kept) (w .gives) in
-    subst (Sweeps _ _ 64 rs) (sym (c .ended .ensures)) (ended-sweeps _ _ w (none-met _ _ _ (k .result) (w .ahead) seen (not-true _ (c .before .if1 .taken))))
+    let k = c .before .look in
+    λ rs l g.
+    let w = c .before .before .before .before .before .loop .inv rs l g in
+    let s = k .ensures (owners (w .before)) (w .long) (w .kept) in
+    s .fault (c .if1 .taken) (w .ahead) l (w .gives)
 
-array-read-if3 : tie.Need-array-read-if3 Inv-loop μ-loop
-unfolding Right
-array-read-if3 c =
-    let l = c .before .before .before .before .before .before .before in
-    let p = l .before .before .pre in
-    let w = l .loop .inv (p .0) (p .1) in
+array-read-if4 : tie.Need-array-read-if4 Inv-loop μ-loop
+array-read-if4 c =
+    let a = c .before .before .before .before .before .before .before .before .before in
+    let g = some-giving (a .args .text .now) (a .args .from) in
+    let w = c .before .before .before .before .before .before .before .loop .inv (g .0) (g .1) (g .2) in
     omega (arith, w .room, w .types-size)
 
-div-if3 : tie.Need-div-if3 Inv-loop μ-loop
-unfolding Right
-div-if3 c =
+div-if4 : tie.Need-div-if4 Inv-loop μ-loop
+div-if4 c =
+    let a = c .before .before .before .before .before .before .before .before .before in
+    let g = some-giving (a .args .text .now) (a .args .from) in
+    let w = c .before .before .before .before .before .before .before .loop .inv (g .0) (g .1) (g .2) in
     let k = c .before .before .before .look in
-    let l = c .before .before .before .before .before .before .before in
-    let p = l .before .before .pre in
-    let w = l .loop .inv (p .0) (p .1) in
-    let m = met _ _ _ (k .result) (w .ahead) (k .ensures _ (w .ahead) (w .long) (w .kept) (w .gives)) (not-false _ (c .before .if1 .left)) in
+    let m = k .ensures (owners (w .before)) (w .long) (w .kept) .met (c .before .if2 .taken) (w .ahead) (g .1) (w .gives) in
     omega (arith, m .bit, bit-some (m .head .rtype))
 
 returns-2 : tie.Need-returns-2 Inv-loop μ-loop
-unfolding Right
 returns-2 c =
     let k = c .before .before .before .before .look in
-    λ rs g.
-    let w = c .before .before .before .before .before .before .before .before .loop .inv rs g in
-    let m = met _ _ _ (k .result) (w .ahead) (k .ensures _ (w .ahead) (w .long) (w .kept) (w .gives)) (not-false _ (c .before .before .if1 .left)) in
-    repeated _ _ w (k .result) m (c .before .if2 .taken) (c .if3 .taken)
+    λ rs l g.
+    let w = c .before .before .before .before .before .before .before .before .loop .inv rs l g in
+    let s = k .ensures (owners (w .before)) (w .long) (w .kept) in
+    let m = s .met (c .before .before .if2 .taken) (w .ahead) l (w .gives) in
+    repeated _ _ l w (k .result) m (c .before .if3 .taken) (c .if4 .taken)
 
 array-read-types : tie.Need-array-read-types Inv-loop μ-loop
-unfolding Right
 array-read-types c =
-    let l = c .before .before .before .before .before .before .before .before in
-    let p = l .before .before .pre in
-    let w = l .loop .inv (p .0) (p .1) in
+    let a = c .before .before .before .before .before .before .before .before .before .before in
+    let g = some-giving (a .args .text .now) (a .args .from) in
+    let w = c .before .before .before .before .before .before .before .before .loop .inv (g .0) (g .1) (g .2) in
     omega (arith, w .room, w .types-size)
 
 add-types : tie.Need-add-types Inv-loop μ-loop
-unfolding Right
 add-types c =
+    let a = c .before .before .before .before .before .before .before .before .before .before in
+    let g = some-giving (a .args .text .now) (a .args .from) in
+    let w = c .before .before .before .before .before .before .before .before .loop .inv (g .0) (g .1) (g .2) in
     let k = c .before .before .before .before .look in
-    let l = c .before .before .before .before .before .before .before .before in
-    let p = l .before .before .pre in
-    let w = l .loop .inv (p .0) (p .1) in
-    let m = met _ _ _ (k .result) (w .ahead) (k .ensures _ (w .ahead) (w .long) (w .kept) (w .gives)) (not-false _ (c .before .before .if1 .left)) in
-    omega (arith, m .bit, bit-small (m .head .rtype), flagged-small (w .flags (k .result .index) (c .before .if2 .taken)))
+    let m = k .ensures (owners (w .before)) (w .long) (w .kept) .met (c .before .before .if2 .taken) (w .ahead) (g .1) (w .gives) in
+    omega (arith, m .bit, bit-small (m .head .rtype), flagged-small (w .flags (k .result .index) (c .before .if3 .taken)))
 
 array-write-types : tie.Need-array-write-types Inv-loop μ-loop
-unfolding Right
 array-write-types c =
-    let l = c .before .before .before .before .before .before .before .before in
-    let p = l .before .before .pre in
-    let w = l .loop .inv (p .0) (p .1) in
+    let a = c .before .before .before .before .before .before .before .before .before .before in
+    let g = some-giving (a .args .text .now) (a .args .from) in
+    let w = c .before .before .before .before .before .before .before .before .loop .inv (g .0) (g .1) (g .2) in
     omega (arith, w .room, w .types-size)
 
 loop-less : tie.Need-loop-less Inv-loop μ-loop
-unfolding Right
 loop-less c =
-    let k = c .before .before .before .before .look in
-    let l = c .before .before .before .before .before .before .before .before in
-    let p = l .before .before .pre in
-    let w = l .loop .inv (p .0) (p .1) in
-    let m = met _ _ _ (k .result) (w .ahead) (k .ensures _ (w .ahead) (w .long) (w .kept) (w .gives)) (not-false _ (c .before .before .if1 .left)) in
-    omega (arith, m .on)
+    let a = c .before .before .before .before .before .before .before .before .before .before in
+    let g = some-giving (a .args .text .now) (a .args .from) in
+    let w = c .before .before .before .before .before .before .before .before .loop .inv (g .0) (g .1) (g .2) in
+    omega (arith, c .before .before .before .before .look .ensures (owners (w .before)) (w .long) (w .kept) .on)
 
 loop-again : tie.Need-loop-again Inv-loop μ-loop
 loop-again c =
     let k = c .before .before .before .before .look in
-    λ rs g.
-    let w = c .before .before .before .before .before .before .before .before .loop .inv rs g in
-    let m = met _ _ _ (k .result) (w .ahead) (k .ensures _ (w .ahead) (w .long) (w .kept) (w .gives)) (not-false _ (c .before .before .if1 .left)) in
-    swept-known _ _ w (k .result) m (c .before .if2 .taken) (c .if3 .left)
+    λ rs l g.
+    let w = c .before .before .before .before .before .before .before .before .loop .inv rs l g in
+    let s = k .ensures (owners (w .before)) (w .long) (w .kept) in
+    let m = s .met (c .before .before .if2 .taken) (w .ahead) l (w .gives) in
+    swept-known _ _ l w (k .result) (s .on) m (c .before .if3 .taken) (c .if4 .left)
+
+cast-starts : tie.Need-cast-starts Inv-loop μ-loop
+cast-starts c = let a = c .before .before .before .before .before .before .before .before .before .before in omega (arith, a .pre)
 
 mul-starts : tie.Need-mul-starts Inv-loop μ-loop
 mul-starts c = search needs
@@ -148,67 +144,78 @@ add-used : tie.Need-add-used Inv-loop μ-loop
 add-used c = search needs
 
 loop-less-2 : tie.Need-loop-less-2 Inv-loop μ-loop
-unfolding Right
 loop-less-2 c =
-    let k = c .before .before .before .before .look in
-    let l = c .before .before .before .before .before .before .before .before in
-    let p = l .before .before .pre in
-    let w = l .loop .inv (p .0) (p .1) in
-    let m = met _ _ _ (k .result) (w .ahead) (k .ensures _ (w .ahead) (w .long) (w .kept) (w .gives)) (not-false _ (c .before .before .if1 .left)) in
-    omega (arith, m .on)
+    let a = c .before .before .before .before .before .before .before .before .before .before in
+    let g = some-giving (a .args .text .now) (a .args .from) in
+    let w = c .before .before .before .before .before .before .before .before .loop .inv (g .0) (g .1) (g .2) in
+    omega (arith, c .before .before .before .before .look .ensures (owners (w .before)) (w .long) (w .kept) .on)
 
 loop-again-2 : tie.Need-loop-again-2 Inv-loop μ-loop
 loop-again-2 c =
     let k = c .before .before .before .before .look in
-    λ rs g.
-    let w = c .before .before .before .before .before .before .before .before .loop .inv rs g in
-    let m = met _ _ _ (k .result) (w .ahead) (k .ensures _ (w .ahead) (w .long) (w .kept) (w .gives)) (not-false _ (c .before .before .if1 .left)) in
-    swept-new _ _ w (k .result) m (c .before .if2 .left) (c .if4 .taken)
+    λ rs l g.
+    let w = c .before .before .before .before .before .before .before .before .loop .inv rs l g in
+    let s = k .ensures (owners (w .before)) (w .long) (w .kept) in
+    let m = s .met (c .before .before .if2 .taken) (w .ahead) l (w .gives) in
+    swept-new _ _ l w (k .result) (s .on) m (c .before .if3 .left) (c .if5 .taken)
 
 loop-less-3 : tie.Need-loop-less-3 Inv-loop μ-loop
-unfolding Right
 loop-less-3 c =
-    let k = c .before .before .before .before .before .look in
-    let l = c .before .before .before .before .before .before .before .before .before in
-    let p = l .before .before .pre in
-    let w = l .loop .inv (p .0) (p .1) in
-    let m = met _ _ _ (k .result) (w .ahead) (k .ensures _ (w .ahead) (w .long) (w .kept) (w .gives)) (not-false _ (c .before .before .before .if1 .left)) in
-    omega (arith, m .on)
+    let a = c .before .before .before .before .before .before .before .before .before .before .before in
+    let g = some-giving (a .args .text .now) (a .args .from) in
+    let w = c .before .before .before .before .before .before .before .before .before .loop .inv (g .0) (g .1) (g .2) in
+    omega (arith, c .before .before .before .before .before .look .ensures (owners (w .before)) (w .long) (w .kept) .on)
 
 loop-again-3 : tie.Need-loop-again-3 Inv-loop μ-loop
 loop-again-3 c =
     let k = c .before .before .before .before .before .look in
-    λ rs g.
-    let w = c .before .before .before .before .before .before .before .before .before .loop .inv rs g in
-    let m = met _ _ _ (k .result) (w .ahead) (k .ensures _ (w .ahead) (w .long) (w .kept) (w .gives)) (not-false _ (c .before .before .before .if1 .left)) in
-    swept-beyond _ _ w (k .result) m (c .before .before .if2 .left) (c .before .if4 .left) (c .before .before .before .before .before .before .before .before .loop-test .taken) (c .if5 .taken)
+    λ rs l g.
+    let w = c .before .before .before .before .before .before .before .before .before .loop .inv rs l g in
+    let s = k .ensures (owners (w .before)) (w .long) (w .kept) in
+    let m = s .met (c .before .before .before .if2 .taken) (w .ahead) l (w .gives) in
+    swept-beyond _ _ l w (k .result) (s .on) m (c .before .before .if3 .left) (c .before .if5 .left) (c .before .before .before .before .before .before .before .before .loop-test .taken) (c .if6 .taken)
 
 loop-less-4 : tie.Need-loop-less-4 Inv-loop μ-loop
-unfolding Right
 loop-less-4 c =
-    let k = c .before .before .before .before .before .look in
-    let l = c .before .before .before .before .before .before .before .before .before in
-    let p = l .before .before .pre in
-    let w = l .loop .inv (p .0) (p .1) in
-    let m = met _ _ _ (k .result) (w .ahead) (k .ensures _ (w .ahead) (w .long) (w .kept) (w .gives)) (not-false _ (c .before .before .before .if1 .left)) in
-    omega (arith, m .on)
+    let a = c .before .before .before .before .before .before .before .before .before .before .before in
+    let g = some-giving (a .args .text .now) (a .args .from) in
+    let w = c .before .before .before .before .before .before .before .before .before .loop .inv (g .0) (g .1) (g .2) in
+    omega (arith, c .before .before .before .before .before .look .ensures (owners (w .before)) (w .long) (w .kept) .on)
 
 loop-again-4 : tie.Need-loop-again-4 Inv-loop μ-loop
 loop-again-4 c =
     let k = c .before .before .before .before .before .look in
-    λ rs g.
-    let w = c .before .before .before .before .before .before .before .before .before .loop .inv rs g in
-    let m = met _ _ _ (k .result) (w .ahead) (k .ensures _ (w .ahead) (w .long) (w .kept) (w .gives)) (not-false _ (c .before .before .before .if1 .left)) in
-    swept-past _ _ w (k .result) m (c .before .before .if2 .left) (c .before .if4 .left) (c .before .before .before .before .before .before .before .before .loop-test .taken) (c .if5 .left)
+    λ rs l g.
+    let w = c .before .before .before .before .before .before .before .before .before .loop .inv rs l g in
+    let s = k .ensures (owners (w .before)) (w .long) (w .kept) in
+    let m = s .met (c .before .before .before .if2 .taken) (w .ahead) l (w .gives) in
+    swept-past _ _ l w (k .result) (s .on) m (c .before .before .if3 .left) (c .before .if5 .left) (c .before .before .before .before .before .before .before .before .loop-test .taken) (c .if6 .left)
 
-ended-requires-2 : tie.Need-ended-requires-2 Inv-loop μ-loop
-ended-requires-2 c κs = search needs
+loop-less-5 : tie.Need-loop-less-5 Inv-loop μ-loop
+loop-less-5 c =
+    let a = c .before .before .before .before .before .before .before .before in
+    let g = some-giving (a .args .text .now) (a .args .from) in
+    let w = c .before .before .before .before .before .before .loop .inv (g .0) (g .1) (g .2) in
+    omega (arith, c .before .before .look .ensures (owners (w .before)) (w .long) (w .kept) .on)
+
+loop-again-5 : tie.Need-loop-again-5 Inv-loop μ-loop
+loop-again-5 c =
+    let k = c .before .before .look in
+    λ rs l g.
+    let w = c .before .before .before .before .before .before .loop .inv rs l g in
+    let s = k .ensures (owners (w .before)) (w .long) (w .kept) in
+    swept-still _ _ l w (k .result .next) (s .on) (s .nothing (c .before .if1 .left) (c .if2 .left) (w .ahead) l (w .gives))
+
+ended-requires : tie.Need-ended-requires Inv-loop μ-loop
+ended-requires c κs = search needs
 
 returns-3 : tie.Need-returns-3 Inv-loop μ-loop
 returns-3 c =
-    λ rs g.
-    let w = c .before .before .loop .inv rs g in
-    subst (Sweeps _ _ 64 rs) (sym (c .ended2 .ensures)) (ended-sweeps _ _ w (none-beyond (w .gives) (c .before .loop-test .left)))
+    let a = c .before .before .before .before in
+    λ rs l g.
+    let w = c .before .before .loop .inv rs l g in
+    let last = end-given (a .args .text .now) (a .pre) _ (w .ahead) l (w .gives) (c .before .loop-test .left) in
+    subst (Sweeps _ _ 64 rs l) (sym (c .ended .ensures)) (ended-sweeps _ _ l w (last .0) (last .1))
 
 pub sweep-spec : {M : Type 1} → statement M
 sweep-spec =
@@ -220,16 +227,17 @@ sweep-spec =
     slice-aggregate-look
     slice-aggregate-look-2
     look-requires
-    ended-requires
+    cast-t19
     returns
-    array-read-if3
-    div-if3
+    array-read-if4
+    div-if4
     returns-2
     array-read-types
     add-types
     array-write-types
     loop-less
     loop-again
+    cast-starts
     mul-starts
     array-write-starts
     mul-marks
@@ -242,5 +250,7 @@ sweep-spec =
     loop-again-3
     loop-less-4
     loop-again-4
-    ended-requires-2
+    loop-less-5
+    loop-again-5
+    ended-requires
     returns-3)
