@@ -2,7 +2,7 @@
 # `build` and `compare`, then `finish` of tests/texts.bash, which comes with it. Settings from outside:
 #   SEED, CASES        the generated cases (default 1, and what the script says)
 #   JOBS               processes (default 2)
-#   VICHRELKA_ARCHIVE  a static library to test in place of the one that `rt staticlib gateway` builds
+#   VICHRELKA_ARCHIVE  a static library to test in place of the one that `make` builds, once for all scripts
 # shellcheck shell=bash
 
 . tests/texts.bash
@@ -17,8 +17,8 @@ begin() {
   export PYTHONPYCACHEPREFIX="$PWD/target/tests/pycache"
   archive=${VICHRELKA_ARCHIVE:-}
   if [ -z "$archive" ]; then
-    rt staticlib gateway >"$out/staticlib.log" 2>&1 || stop "'rt staticlib gateway' failed: run it to see why"
-    archive=target/staticlib/libgateway.a
+    archive=target/staticlib/libvichrelka.a
+    make --no-print-directory "$archive" >"$out/make.log" 2>&1 || stop "'make $archive' failed: run it to see why"
   fi
   [ -f "$archive" ] || stop "there is no $archive"
 }

@@ -1,4 +1,3 @@
-pub mod SameLaws
 pub mod LaidLaws
 pub mod FlagLaws
 pub mod TableLaws

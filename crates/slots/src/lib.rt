@@ -1,8 +1,5 @@
-// The bytes of the table of names: which are sound, where a name stands, and what a step does to one slot.
-mod field;
-pub mod slot;
-pub mod table;
-
+// The table of names as bytes: what a slot and a sound table are, by definitions and their laws. The functions over them are those of `slot`, `slot_change` and
+// `slot_row`.
 // The family of an address: its record is an A or an AAAA.
 pub enum Family {
     V4,

@@ -1,7 +1,6 @@
 // Where a name stands in a sound table.
-use slots::slot;
-use slots::table::SLOTS;
-use slots::table::find;
+use slot_row::SLOTS;
+use slot_row::find;
 ghost use mathlib.Core.Path.{_≡_};
 ghost use Rattle.name.specs.Name.{canonical};
 ghost use Rattle.slots.specs.Form.{Sound};

@@ -8,10 +8,9 @@ use base::refusal::HELD_BY_ANOTHER;
 use base::refusal::KEPT_BY_HAND;
 use base::refusal::NAME_NOT_HELD;
 use base::refusal::TABLE_FULL;
+use slot_row::close_up;
 use slots::Family;
 use slots::Holding;
-use slots::slot;
-use slots::table::close_up;
 ghost use mathlib.Core.Bool.{true};
 ghost use mathlib.Core.Path.{_≡_};
 ghost use Prim.Native.Nat.{_+_, _≤_};
@@ -36,14 +35,14 @@ fn add_held(slot: &mut [u8], dhcid: &[u8], family: Family, address: &[u8], polic
     match holder {
         Holding::ByHand => Answer::refused(KEPT_BY_HAND),
         Holding::ByThis => {
-            slot::refresh(slot, family, address);
+            slot_change::refresh(slot, family, address);
             Answer::Accepted(1)
         }
         Holding::ByAnother => {
             if policy == FIRST_WINS {
                 return Answer::refused(HELD_BY_ANOTHER);
             }
-            slot::take_over(slot, dhcid, family, address);
+            slot_change::take_over(slot, dhcid, family, address);
             Answer::Accepted(2)
         }
     }
@@ -61,7 +60,7 @@ fn remove_held(slot: &mut [u8], dhcid: &[u8], family: Family, address: &[u8]) ->
             if !slot::has_address(slot, family, address) {
                 return Answer::refused(ADDRESS_DIFFERS);
             }
-            slot::delete(slot, family);
+            slot_change::delete(slot, family);
             Answer::Accepted(0)
         }
         Holding::ByAnother => Answer::refused(HELD_BY_ANOTHER),
@@ -90,7 +89,7 @@ fn enter_at(table: &mut [u8], at: usize, name: &[u8], dhcid: &[u8], family: Fami
     ensures { λ _. ⌜ now (table .exit) ≡ spec.inSlot (now (table .entry)) at (slotBytes (effect.entered (canonical (now (name .entry))) (now (dhcid .entry)) family (now (address .entry)))) ⌝ }
 {
     let end = at + slot::SIZE;
-    slot::enter(&mut table[at..end], name, dhcid, family, address);
+    slot_change::enter(&mut table[at..end], name, dhcid, family, address);
 }
 
 // A remove from the name whose slot is at `at`.

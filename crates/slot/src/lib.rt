@@ -1,0 +1,217 @@
+// One slot of the table: the name's wire length, the name in 255 bytes, flags, A, AAAA, DHCID. What is absent is zeros. Is it well formed, and what does it hold?
+use base::dhcid::is_well_formed;
+use name::wire::is_canonical;
+use octets::are_zeros;
+use octets::is_zero;
+use octets::same;
+use slots::Family;
+use slots::Holding;
+use slots::Rtype;
+ghost use mathlib.Core.Path.{_≡_};
+ghost use Prim.Native.Nat.{_≤_};
+ghost use lib.ListN.{length, take};
+ghost use Rattle.base.specs.Bytes.{eqBytes};
+ghost use Rattle.base.specs.Logic.{Decides};
+ghost use Rattle.slots.specs.Entry.{addressOf, addressSize};
+ghost use Rattle.slots.specs.Fields.{inField, there, fieldAt, fieldSize, fieldBit};
+ghost use Rattle.slots.specs.Form.{IsSlot, field};
+ghost use Rattle.slots.specs.Promise.{OfSlot, bitOf, offsetOf, holding, isAddress};
+ghost use Rattle.slots.specs.Promise as spec;
+ghost use Rattle.slots.specs.SlotTests as tests;
+
+pub const SIZE: usize = 312;
+
+// Where the fields stand; the name's length is at 0.
+pub const NAME: usize = 1;
+
+pub const FLAGS: usize = 256;
+
+const A: usize = 257;
+
+const AAAA: usize = 261;
+
+pub const DHCID: usize = 277;
+
+const DHCID_SIZE: usize = 35;
+
+// The flags of the three.
+const HAS_A: u8 = 1;
+
+const HAS_AAAA: u8 = 2;
+
+pub const HAS_DHCID: u8 = 4;
+
+const ALL: u8 = 7;
+
+// Is this flag, of the value 1, 2 or 4, set?
+pub fn is_set(bit: u8, flags: u8) -> bool
+    requires { ⌜ 1 ≤ bit ⌝ }
+    ensures { λ r. ⌜ r ≡ spec.isSet bit flags ⌝ }
+{
+    flags / bit % 2 == 1
+}
+
+// Is a field whose flag is not set nothing but zeros?
+fn is_zero_unless_set(bit: u8, flags: u8, field: &[u8]) -> bool
+    requires { ⌜ 1 ≤ bit ⌝ }
+    ensures { λ r. ⌜ Decides r (tests.ZeroUnlessSet bit flags (now (field .entry))) ⌝ }
+{
+    if is_set(bit, flags) {
+        return true;
+    }
+    is_zero(field)
+}
+
+// Is this a name as a sound table has it, proper and in canonical form?
+fn is_held_name(name: &[u8]) -> bool
+    ensures { λ r. ⌜ Decides r (tests.HeldName (now (name .entry))) ⌝ }
+{
+    is_canonical(name)
+}
+
+// Do the flags and the fields agree?
+fn are_fields(slot: &[u8]) -> bool
+    requires { ⌜ length (now slot) ≡ 312 ⌝ }
+    ensures { λ r. ⌜ Decides r (tests.FieldsIn (now (slot .entry))) ⌝ }
+{
+    let flags = slot[FLAGS];
+    if flags == 0 {
+        return false;
+    }
+    if ALL < flags {
+        return false;
+    }
+    if !is_zero_unless_set(HAS_A, flags, &slot[A..AAAA]) {
+        return false;
+    }
+    if !is_zero_unless_set(HAS_AAAA, flags, &slot[AAAA..DHCID]) {
+        return false;
+    }
+    let dhcid = &slot[DHCID..SIZE];
+    if is_set(HAS_DHCID, flags) {
+        return is_well_formed(dhcid);
+    }
+    is_zero(dhcid)
+}
+
+// Is this the slot of an entry that a sound table can have?
+pub fn is_slot(slot: &[u8]) -> bool
+    requires { ⌜ length (now slot) ≡ 312 ⌝ }
+    ensures { λ r. ⌜ Decides r (IsSlot (now (slot .entry))) ⌝ }
+{
+    let end = NAME + slot[0] as usize;
+    if !is_held_name(&slot[NAME..end]) {
+        return false;
+    }
+    // nothing stands after the name
+    if !are_zeros(&slot[end..FLAGS]) {
+        return false;
+    }
+    are_fields(slot)
+}
+
+// Who holds the name, seen from the client with this DHCID?
+pub fn holding(slot: &[u8], dhcid: &[u8]) -> Holding
+    requires { ⌜ IsSlot (now slot) ⌝ }
+    ensures { λ r. ⌜ OfSlot (now (slot .entry)) (λ e. r ≡ holding eqBytes (e .holder) (now (dhcid .entry))) ⌝ }
+{
+    if !is_set(HAS_DHCID, slot[FLAGS]) {
+        return Holding::ByHand;
+    }
+    if same(&slot[DHCID..SIZE], dhcid) {
+        Holding::ByThis
+    } else {
+        Holding::ByAnother
+    }
+}
+
+// Has the name this address?
+pub fn has_address(slot: &[u8], family: Family, address: &[u8]) -> bool
+    requires { ⌜ IsSlot (now slot) ⌝ }
+    ensures { λ r. ⌜ OfSlot (now (slot .entry)) (λ e. r ≡ isAddress (addressOf family e) (now (address .entry))) ⌝ }
+{
+    if !is_set(bit(family), slot[FLAGS]) {
+        return false;
+    }
+    let at = offset(family);
+    let end = at + address_size(family);
+    same(&slot[at..end], address)
+}
+
+// Has the slot a record of this type?
+pub fn has(slot: &[u8], rtype: Rtype) -> bool
+    requires { ⌜ IsSlot (now slot) ⌝ }
+    ensures { λ r. ⌜ OfSlot (now (slot .entry)) (λ e. r ≡ there (inField rtype e)) ⌝ }
+{
+    is_set(field_bit(rtype), slot[FLAGS])
+}
+
+// The name in a used slot.
+pub fn name_of(slot: &[u8]) -> &[u8]
+    requires { ⌜ IsSlot (now slot) ⌝ }
+    ensures { λ r. ⌜ OfSlot (now (slot .entry)) (λ e. now r ≡ e .name) ⌝ }
+{
+    let end = NAME + slot[0] as usize;
+    &slot[NAME..end]
+}
+
+// 35 bytes from the first of a record's data on: all of a DHCID's, and of an address its own with what stands behind it.
+pub fn data_from(slot: &[u8], rtype: Rtype) -> &[u8]
+    requires { ⌜ IsSlot (now slot) ⌝ }
+    ensures { λ r. ⌜ OfSlot (now (slot .entry)) (λ e. (length (now r) ≡ 35) × (take (fieldSize rtype) (now r) ≡ field (fieldSize rtype) (inField rtype e))) ⌝ }
+{
+    let at = field_offset(rtype);
+    &slot[at..at + DHCID_SIZE]
+}
+
+// A family's flag.
+pub fn bit(family: Family) -> u8
+    ensures { λ r. ⌜ r ≡ bitOf family ⌝ }
+{
+    match family {
+        Family::V4 => HAS_A,
+        Family::V6 => HAS_AAAA,
+    }
+}
+
+// Where a family's address stands.
+pub fn offset(family: Family) -> usize
+    ensures { λ r. ⌜ r ≡ offsetOf family ⌝ }
+{
+    match family {
+        Family::V4 => A,
+        Family::V6 => AAAA,
+    }
+}
+
+// The bytes of a family's address.
+pub fn address_size(family: Family) -> usize
+    ensures { λ r. ⌜ r ≡ addressSize family ⌝ }
+{
+    match family {
+        Family::V4 => 4,
+        Family::V6 => 16,
+    }
+}
+
+// A type's flag.
+pub fn field_bit(rtype: Rtype) -> u8
+    ensures { λ r. ⌜ r ≡ fieldBit rtype ⌝ }
+{
+    match rtype {
+        Rtype::A => HAS_A,
+        Rtype::Aaaa => HAS_AAAA,
+        Rtype::Dhcid => HAS_DHCID,
+    }
+}
+
+// Where a type's data stand.
+pub fn field_offset(rtype: Rtype) -> usize
+    ensures { λ r. ⌜ r ≡ fieldAt rtype ⌝ }
+{
+    match rtype {
+        Rtype::A => A,
+        Rtype::Aaaa => AAAA,
+        Rtype::Dhcid => DHCID,
+    }
+}

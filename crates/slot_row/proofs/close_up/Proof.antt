@@ -1,0 +1,36 @@
+use Prim.Native.Nat.{ℕ, _-_}
+use mathlib.Core.Path.{_∙_}
+use mathlib.Core.List.{List}
+use lib.ListN.{replicate}
+use borrow.Author.Needs.{needs}
+use Rattle.base.specs.Bytes.{overlay}
+use Rattle.slots.proofs.TableLaws.{closed-up}
+use Rattle.slot_row.proofs.close_up.Statement.{statement}
+use Rattle.slot_row.proofs.close_up.Tie as tie
+
+move-up-requires : tie.Need-move-up-requires
+move-up-requires c κs = search needs
+
+sub-last : tie.Need-sub-last
+sub-last c = search needs
+
+put-zeros-requires : tie.Need-put-zeros-requires
+put-zeros-requires c κs = search needs
+
+same-length : tie.Need-same-length
+same-length c = search needs
+
+returns : tie.Need-returns
+returns c =
+    let m = c .before .before .before .before .before .before in
+    let s = m .before .before .before in
+    let b = s .args .table .now in
+    let zeros : List ℕ = replicate 312 0 in
+    c .before .before .put-zeros .ensures
+    ∙ (λ i. overlay (m .move-up .ensures i) (m .move-up .kept .0 i - 312) zeros)
+    ∙ closed-up b (s .args .at) (s .pre)
+
+pub close-up-spec : {M : Type 1} → statement M
+close-up-spec =
+    tie.close
+    (tie.spec move-up-requires sub-last put-zeros-requires same-length returns)

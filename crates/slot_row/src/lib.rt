@@ -1,0 +1,150 @@
+// The table: a row of slots, of which the used ones come first.
+use name::wire::matches;
+use octets::is_zero;
+use octets::put_zeros;
+use octets::same;
+use slot::is_slot;
+ghost use mathlib.Core.Path.{_≡_};
+ghost use mathlib.Core.List.{List, [], _∷_};
+ghost use Prim.Native.Nat.{_+_, _≤_, _<_};
+ghost use lib.ListN.{length, drop};
+ghost use Rattle.base.specs.Bytes.{overlay};
+ghost use Rattle.base.specs.Logic.{Decides};
+ghost use Rattle.name.specs.Name.{canonical};
+ghost use Rattle.slots.specs.Entry.{names, position, Distinct};
+ghost use Rattle.slots.specs.Form.{TableEntry, Sound, tableBytes};
+ghost use Rattle.slots.specs.Promise.{Entries, OfTable, nameAt, closedUp};
+
+// How many slots there are, and their bytes.
+pub const SLOTS: usize = 64;
+
+pub const SIZE: usize = 19968;
+
+// Is every slot well formed, with the used ones first? Each byte is looked at a bounded number of times.
+fn are_slots(table: &[u8]) -> bool
+    requires { ⌜ length (now table) ≡ 19968 ⌝ }
+    ensures { λ r. ⌜ Decides r (Entries 64 (now (table .entry))) ⌝ }
+{
+    let mut i: usize = 0;
+    while i < SLOTS {
+        let at = slot::SIZE * i;
+        if table[at] == 0 {
+            return is_zero(&table[at..]);
+        }
+        if !is_slot(&table[at..at + slot::SIZE]) {
+            return false;
+        }
+        i += 1;
+    }
+    true
+}
+
+// The name in slot i; no bytes if the slot is unused.
+fn name_at(table: &[u8], i: usize) -> &[u8]
+    requires { ⌜ (length (now table) ≡ 19968) × (i < 64) ⌝ }
+    ensures { λ r. ⌜ now r ≡ nameAt (now (table .entry)) i ⌝ }
+{
+    let at = slot::SIZE * i;
+    let len = table[at] as usize;
+    let start = at + slot::NAME;
+    &table[start..start + len]
+}
+
+// The index of the slot that has this name, which may be in any case; of the first unused slot, if none has it, or the number of slots, if all are used.
+// Bytes are compared only with names of the same length, and only up to the first that differs.
+pub fn find(table: &[u8], name: &[u8]) -> usize
+    requires { ⌜ Entries 64 (now table) ⌝ }
+    ensures { λ r. ⌜ OfTable 64 (now (table .entry)) (λ t. r ≡ position (canonical (now (name .entry))) t) ⌝ }
+{
+    let mut i: usize = 0;
+    while i < SLOTS {
+        let held = name_at(table, i);
+        if held.len() == 0 {
+            return i;
+        }
+        if matches(name, held) {
+            return i;
+        }
+        i += 1;
+    }
+    i
+}
+
+// Does the name in slot i stand in no slot before it?
+fn is_first(table: &[u8], i: usize) -> bool
+    requires { ⌜ (Entries 64 (now table)) × (i < 64) ⌝ }
+    ensures { λ b. ⌜ OfTable 64 (now (table .entry)) (λ t. ((e : TableEntry) (r : List TableEntry) → drop i t ≡ e ∷ r → Decides b (position (e .name) t ≡ i))) ⌝ }
+{
+    let name = name_at(table, i);
+    let mut j: usize = 0;
+    while j < i {
+        if same(name_at(table, j), name) {
+            return false;
+        }
+        j += 1;
+    }
+    true
+}
+
+// Does no name stand twice? It does not if each stands in no slot before its own.
+fn no_name_twice(table: &[u8]) -> bool
+    requires { ⌜ Entries 64 (now table) ⌝ }
+    ensures { λ r. ⌜ OfTable 64 (now (table .entry)) (λ t. Decides r (Distinct (names t))) ⌝ }
+{
+    let mut i: usize = 0;
+    while i < SLOTS {
+        if table[slot::SIZE * i] == 0 {
+            return true;
+        }
+        if !is_first(table, i) {
+            return false;
+        }
+        i += 1;
+    }
+    true
+}
+
+// Are these the bytes of a sound table?
+pub fn is_sound(table: &[u8]) -> bool
+    ensures { λ r. ⌜ Decides r (Sound 64 (now (table .entry))) ⌝ }
+{
+    if table.len() != SIZE {
+        return false;
+    }
+    if !are_slots(table) {
+        return false;
+    }
+    no_name_twice(table)
+}
+
+// Moves the bytes behind the slot at `at` up by a slot.
+fn move_up(table: &mut [u8], at: usize)
+    requires { ⌜ at + 312 ≤ length (now table) ⌝ }
+    ensures { λ _. ⌜ now (table .exit) ≡ overlay (now (table .entry)) at (drop (at + 312) (now (table .entry))) ⌝ }
+{
+    let behind = at + slot::SIZE;
+    let count = table.len() - behind;
+    let mut i: usize = 0;
+    while i < count {
+        table[at + i] = table[behind + i];
+        i += 1;
+    }
+}
+
+// Takes the slot at `at` out: later ones move up, and the last slot is then unused.
+pub fn close_up(table: &mut [u8], at: usize)
+    requires { ⌜ at + 312 ≤ length (now table) ⌝ }
+    ensures { λ _. ⌜ now (table .exit) ≡ closedUp (now (table .entry)) at ⌝ }
+{
+    move_up(table, at);
+    let last = table.len() - slot::SIZE;
+    put_zeros(table, last, slot::SIZE);
+}
+
+// Makes the table empty.
+pub fn make_empty(table: &mut [u8])
+    requires { ⌜ length (now table) ≡ 19968 ⌝ }
+    ensures { λ _. ⌜ now (table .exit) ≡ tableBytes 64 [] ⌝ }
+{
+    put_zeros(table, 0, SIZE);
+}
