@@ -2,6 +2,7 @@ pub mod LabelLaws
 pub mod NameLaws
 pub mod WireLaws
 pub mod TextLaws
+pub mod LeadLaws
 pub mod ReadingLaws
 pub mod DottedLaws
 pub mod Theorems

@@ -8,13 +8,13 @@ use native.Mathlib.Omega.{arith}
 use lib.Dec.{leb, eqb}
 use lib.ListN.{length, getD, take, drop, length-drop, take-append-drop, drop-of-length-le}
 use lib.Seq.{drop-cons, drop-drop, take-suc, take-all}
-use borrow.Author.Tests.{eq-eqb, ne-eqb, le-leb, lt-leb, eqb-true, eqb-false, leb-true}
+use borrow.Author.Tests.{eq-eqb, ne-eqb, le-leb, lt-leb, eqb-true, leb-true}
 use Rattle.base.specs.Logic.{Decides}
 use Rattle.base.proofs.Tests.{and-left, and-right, under, over}
 use Rattle.name.specs.Label.{isUpper, isLower, isDigit, isLabelByte, lower}
 use Rattle.name.specs.Name.{Proper, canonical}
 use Rattle.name.specs.Strays.{isSmall, stray, strays}
-use Rattle.name.proofs.LabelLaws.{label-byte, lower-length, lower-upper, lower-other, upper-range, by-case}
+use Rattle.name.proofs.LabelLaws.{lower-length, lower-upper, lower-other, upper-range, by-case}
 use Rattle.name.proofs.WireLaws.{isNil, accepts, proper-first, accepts-proper, decided, at-last}
 
 -- ---- counting
@@ -28,7 +28,7 @@ unfolding stray
 stray-other b e = ap (λ (t : Bool). cond t 0 1) e
 
 -- by which of the two a byte is
-by-small : {P : Type 0} (b : ℕ) → (isSmall b ≡ true → P) → (isSmall b ≡ false → P) → P
+pub by-small : {P : Type 0} (b : ℕ) → (isSmall b ≡ true → P) → (isSmall b ≡ false → P) → P
 by-small {P} b f g = go (isSmall b) refl
   where
     go : (t : Bool) → isSmall b ≡ t → P
@@ -70,7 +70,7 @@ counted-all n found i h all = h .all ∙ ap strays (take-all i n all)
 
 -- ---- a byte of a label that is canonical
 
-small-as : (b : ℕ) → lower b ≡ b → isSmall b ≡ isLabelByte b
+pub small-as : (b : ℕ) → lower b ≡ b → isSmall b ≡ isLabelByte b
 unfolding isLabelByte isSmall
 small-as b e =
     by-case b (λ u. absurd (omega (arith, e, lower-upper b u))) (λ o. sym (ap (λ (t : Bool). t || isLower b || isDigit b || eqb b 45 || eqb b 95) o))
@@ -173,7 +173,7 @@ pub record Hopped (n : List ℕ) (left i : ℕ) : Type 0 where
 pub hopped-none : (n : List ℕ) → Hopped n (strays n) 0
 hopped-none n = record { passed = 0; sum = omega arith; clean = λ z. refl; dirty = λ o. absurd (omega arith) }
 
-by-none : {P : Type 0} (k : ℕ) → (k ≡ 0 → P) → (1 ≤ k → P) → P
+pub by-none : {P : Type 0} (k : ℕ) → (k ≡ 0 → P) → (1 ≤ k → P) → P
 by-none zero f g = f refl
 by-none (suc k) f g = g (omega arith)
 

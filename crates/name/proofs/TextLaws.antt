@@ -11,13 +11,9 @@ use Rattle.base.specs.Logic.{Every}
 use Rattle.base.proofs.Tests.{and-left, and-right}
 use Rattle.name.specs.Label.{Label, isUpper, isLower, isDigit, isLabelByte, lower}
 use Rattle.name.specs.Name.{wire, text}
+unfoldable pub use Rattle.name.specs.Promise.{lead}
 use Rattle.name.proofs.NameLaws.{lowered}
 use Rattle.name.proofs.WireLaws.{isNil}
-
--- the length of the label that stands first
-unfoldable pub lead : List ℕ → ℕ
-lead [] = 0
-lead (b ∷ w) = cond (eqb b 46) 0 (suc (lead w))
 
 -- the wire form but for its first length: a dot gives way to the length of the label after it
 unfoldable pub shifted : List ℕ → List ℕ
@@ -63,7 +59,7 @@ module _ (b : ℕ) (w : List ℕ) where
 
 -- ---- the text of labels
 
-some-bytes : (l w : List ℕ) (b : ℕ) → isNil (l ++ b ∷ w) ≡ false
+pub some-bytes : (l w : List ℕ) (b : ℕ) → isNil (l ++ b ∷ w) ≡ false
 some-bytes [] w b = refl
 some-bytes (a ∷ l) w b = refl
 

@@ -1,7 +1,9 @@
 -- What the functions that read and write names promise beyond the definitions of Name.antt.
 use Prim.Native.Nat.{ℕ, zero, suc}
+use mathlib.Core.Bool.{cond}
 use mathlib.Core.Path.{_≡_}
 use mathlib.Core.List.{List, [], _∷_}
+use lib.Dec.{eqb}
 use lib.ListN.{length}
 use Rattle.name.specs.Name.{Spells, canonical, padded}
 use Rattle.name.specs.declared.WireName.{WireName}
@@ -18,6 +20,11 @@ pub record ReadsNone (w : List ℕ) (r : WireName) : Type 0 where
   pub none : (n : List ℕ) → Spells w n → ⊥
   pub bytes : r .bytes ≡ padded []
   pub len : r .len ≡ 0
+
+-- the length of the label that stands first in text: so many bytes come before the first dot (46)
+unfoldable pub lead : List ℕ → ℕ
+lead [] = 0
+lead (b ∷ w) = cond (eqb b 46) 0 (suc (lead w))
 
 -- the text of wire bytes, whatever they are: the first length byte is left out, each later one is a dot, which ends the label before it, and the
 -- other bytes stand as they are. Of a name it is the name's text (the theorem spelled)

@@ -1,12 +1,14 @@
 // Names in text: each label followed by a dot.
 use crate::WireName;
-use crate::byte::is_label_byte;
-use crate::byte::lower;
+use crate::wire::LONGEST_LABEL;
+use crate::wire::put_canonical;
+use crate::wire::strays;
 ghost use mathlib.Core.Path.{_≡_};
 ghost use mathlib.Core.Logic.{_⊎_};
-ghost use Prim.Native.Nat.{_+_, _≤_};
-ghost use lib.ListN.{length};
+ghost use Prim.Native.Nat.{_+_, _-_, _≤_, _<_};
+ghost use lib.ListN.{length, getD, drop};
 ghost use Rattle.base.specs.Bytes.{overlay};
+ghost use Rattle.base.specs.Logic.{Decides};
 ghost use Rattle.name.specs.Promise as spec;
 
 // The longest name in text: one byte less than in wire form.
@@ -23,8 +25,55 @@ fn no_name() -> WireName
     }
 }
 
-// The name that a word of text is, in canonical wire form; or none, with length 0. Read from the last byte to the first: where a label's first
-// byte is passed its length is known, and the length stands in wire form where the dot before the label stands in text.
+// How many bytes are looked at at a turn.
+const CHUNK: usize = 16;
+
+// From so many bytes on it pays to look at a chunk first.
+const FAR: usize = 64;
+
+// Is there no dot in the chunk from `at` on? With no way out before its end, so that it is taken at once.
+fn is_dotless(word: &[u8], at: usize) -> bool
+    requires { ⌜ at + 16 ≤ length (now word) ⌝ }
+    ensures { λ r. ⌜ Decides r (16 ≤ spec.lead (drop at (now (word .entry)))) ⌝ }
+{
+    let mut dotless = true;
+    let mut i: usize = 0;
+    while i < CHUNK {
+        dotless = dotless & (word[at + i] != DOT);
+        i += 1;
+    }
+    dotless
+}
+
+// The index from `at` on that chunks without a dot lead to.
+fn pass_chunks(word: &[u8], at: usize) -> usize
+    requires { ⌜ at ≤ length (now word) ⌝ }
+    ensures { λ r. ⌜ (at ≤ r) × (r ≤ at + spec.lead (drop at (now (word .entry)))) ⌝ }
+{
+    let mut i = at;
+    while FAR <= word.len() - i {
+        if !is_dotless(word, i) {
+            return i;
+        }
+        i += CHUNK;
+    }
+    i
+}
+
+// The index of the first dot from `at` on, in a word whose last byte is one.
+fn next_dot(word: &[u8], at: usize) -> usize
+    requires { ⌜ (at < length (now word)) × (getD (now word) (length (now word) - 1) 0 ≡ 46) ⌝ }
+    ensures { λ r. ⌜ r ≡ at + spec.lead (drop at (now (word .entry))) ⌝ }
+{
+    let mut i = pass_chunks(word, at);
+    while word[i] != DOT {
+        i += 1;
+    }
+    i
+}
+
+// The name that a word of text is, in canonical wire form; or none, with length 0. All bytes are taken over, one further on, and each length then stands
+// where in text the dot before the label does; the bytes are right if every stray is a dot.
 pub fn from_text(word: &[u8]) -> WireName
     ensures { λ r. ⌜ spec.Reads (now (word .entry)) r ⊎ spec.ReadsNone (now (word .entry)) r ⌝ }
 {
@@ -39,33 +88,28 @@ pub fn from_text(word: &[u8]) -> WireName
         return no_name();
     }
     let mut bytes = [0u8; 255];
-    // the length of the label that begins at word[i]
-    let mut run: u8 = 0;
-    let mut i = n - 1;
-    while 0 < i {
-        i -= 1;
-        let b = word[i];
-        if b == DOT {
-            if run == 0 {
-                return no_name();
-            }
-            bytes[i + 1] = run;
-            run = 0;
-        } else {
-            if 62 < run {
-                return no_name();
-            }
-            if !is_label_byte(b) {
-                return no_name();
-            }
-            bytes[i + 1] = lower(b);
-            run += 1;
+    put_canonical(&mut bytes, 1, word);
+    // the strays, but for the dots passed
+    let mut left = strays(&bytes[1..n + 1]);
+    let mut i: usize = 0;
+    while i < n {
+        let end = next_dot(word, i);
+        let size = (end - i) as u8;
+        if size == 0 {
+            return no_name();
         }
+        if LONGEST_LABEL < size {
+            return no_name();
+        }
+        bytes[i] = size;
+        left -= 1;
+        i = end + 1;
     }
-    if run == 0 {
+    if left != 0 {
         return no_name();
     }
-    bytes[0] = run;
+    // in the place of the last dot
+    bytes[n] = 0;
     WireName {
         bytes: bytes,
         len: (n + 1) as u8,

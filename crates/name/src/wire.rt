@@ -14,7 +14,7 @@ ghost use Rattle.name.specs.Strays as count;
 pub const LONGEST: usize = 255;
 
 // The longest label, in bytes.
-const LONGEST_LABEL: u8 = 63;
+pub(crate) const LONGEST_LABEL: u8 = 63;
 
 // Is this a proper name and nothing after it? Each byte is looked at once.
 pub fn is_proper(name: &[u8]) -> bool
@@ -54,7 +54,7 @@ pub fn is_proper(name: &[u8]) -> bool
 }
 
 // How many bytes no label in canonical form has: with no way out before the last, so that many are taken at a turn.
-fn strays(name: &[u8]) -> u8
+pub(crate) fn strays(name: &[u8]) -> u8
     requires { ⌜ length (now name) ≤ 255 ⌝ }
     ensures { λ r. ⌜ r ≡ count.strays (now (name .entry)) ⌝ }
 {

@@ -1,20 +1,21 @@
-use Prim.Native.Nat.{_-_}
-use mathlib.Core.Path.{refl, sym, _∙_}
+use Prim.Native.Nat.{_+_, _-_}
+use mathlib.Core.Path.{refl, ap, _∙_}
 use mathlib.Core.Logic.{inl}
 use denote.Ref.{now}
 use native.Mathlib.Omega.{arith}
 use borrow.Author.Needs.{needs}
-use borrow.Author.Tests.{not-true, not-false}
 use lib.ListN.{length}
-use Rattle.name.proofs.ReadingLaws.{Reading, refused, no-bytes, too-long, no-last-dot, no-first-label, empty-label, long-label, other-byte, reading-last, reading-dot, reading-byte, reading-all, step-back, at-first}
+use Rattle.name.specs.Strays.{strays}
+use Rattle.name.proofs.LeadLaws.{lead-within}
+use Rattle.name.proofs.ReadingLaws.{Reading, refused, invalid, no-bytes, too-long, no-last-dot, taken-over, word-in, reading-none, empty-label, long-label, some-left-over, reading-more, strays-over, reading-all}
 use Rattle.name.proofs.text.from_text.Statement.{statement}
 use Rattle.name.proofs.text.from_text.Tie as tie
 
 abbrev Inv-loop : tie.InvT-loop
-Inv-loop word n bytes₀ run₀ i₀ bytes run i = Reading word bytes run i
+Inv-loop word n bytes₀ left₀ i₀ bytes left i = Reading word bytes left i
 
 abbrev μ-loop : tie.MeasureT-loop
-μ-loop word n bytes₀ run₀ i₀ bytes run i = i
+μ-loop word n bytes₀ left₀ i₀ bytes left i = n - i
 
 no-name-requires : tie.Need-no-name-requires Inv-loop μ-loop
 no-name-requires c κs = search needs
@@ -46,118 +47,106 @@ returns-3 c =
     let w = now (c .before .before .before .before .before .before .args .word) in
     refused w _ (c .no-name3 .ensures) (λ n s. no-last-dot w n (length w - 1) s (omega arith) (c .before .if3 .taken))
 
-sub-i : tie.Need-sub-i Inv-loop μ-loop
-sub-i c = omega arith
+slice-aggregate-put-canonical : tie.Need-slice-aggregate-put-canonical Inv-loop μ-loop
+slice-aggregate-put-canonical c = search needs
+
+put-canonical-requires : tie.Need-put-canonical-requires Inv-loop μ-loop
+put-canonical-requires c κs = omega arith
+
+add-strays : tie.Need-add-strays Inv-loop μ-loop
+add-strays c = omega arith
+
+sub-strays : tie.Need-sub-strays Inv-loop μ-loop
+sub-strays c = omega arith
+
+part-strays-start : tie.Need-part-strays-start Inv-loop μ-loop
+part-strays-start c = omega arith
+
+part-strays-end : tie.Need-part-strays-end Inv-loop μ-loop
+part-strays-end c = omega arith
+
+strays-requires : tie.Need-strays-requires Inv-loop μ-loop
+strays-requires c κs = omega arith
 
 loop-holds : tie.Need-loop-holds Inv-loop μ-loop
 loop-holds c =
-    let w = now (c .before .before .before .before .before .args .word) in
-    reading-last w (length w - 1) 255 (omega arith) (omega arith) (c .if3 .left) refl
+    let w = now (c .before .before .before .before .before .before .before .before .before .before .before .args .word) in
+    let over = taken-over w _ 255 refl (c .before .before .before .before .put-canonical .ensures) in
+    reading-none w _ _ over (c .strays .ensures ∙ ap strays (word-in w _ (length w + 1 - 1) (omega arith) over))
 
-sub-i-2 : tie.Need-sub-i-2 Inv-loop μ-loop
-sub-i-2 c = omega arith
+next-dot-requires : tie.Need-next-dot-requires Inv-loop μ-loop
+next-dot-requires c κs = (c .loop-test .taken, c .before .before .before .before .before .before .before .before .if3 .left)
 
-shared-slice-read-b : tie.Need-shared-slice-read-b Inv-loop μ-loop
-shared-slice-read-b c = omega arith
+sub-size : tie.Need-sub-size Inv-loop μ-loop
+sub-size c = omega arith
+
+cast-size : tie.Need-cast-size Inv-loop μ-loop
+cast-size c =
+    let w = now (c .before .before .before .before .before .before .before .before .before .before .before .before .before .before .args .word) in
+    omega (arith, c .next-dot .ensures, lead-within w (c .before .before .before .before .before .before .before .before .before .if3 .left) (c .before .before .loop .i) (c .before .loop-test .taken))
 
 no-name-requires-4 : tie.Need-no-name-requires-4 Inv-loop μ-loop
 no-name-requires-4 c κs = search needs
 
 returns-4 : tie.Need-returns-4 Inv-loop μ-loop
 returns-4 c =
-    let w = now (c .before .before .before .before .before .before .before .before .before .before .before .args .word) in
-    let l = c .before .before .before .before .before .loop in
-    let h = step-back w (l .bytes) (l .run) (l .i) (l .inv) (omega arith) in
-    refused w _ (c .no-name4 .ensures) (λ n s. empty-label w (l .bytes) (l .run) (l .i - 1) h n s (c .before .before .if4 .taken) (c .before .if5 .taken))
-
-add-bytes : tie.Need-add-bytes Inv-loop μ-loop
-add-bytes c = omega arith
-
-array-write-bytes : tie.Need-array-write-bytes Inv-loop μ-loop
-array-write-bytes c = omega arith
-
-loop-less : tie.Need-loop-less Inv-loop μ-loop
-loop-less c = omega arith
-
-loop-again : tie.Need-loop-again Inv-loop μ-loop
-loop-again c =
-    let w = now (c .before .before .before .before .before .before .before .before .before .before .args .word) in
+    let w = now (c .before .before .before .before .before .before .before .before .before .before .before .before .before .before .before .before .args .word) in
     let l = c .before .before .before .before .loop in
-    let h = step-back w (l .bytes) (l .run) (l .i) (l .inv) (omega arith) in
-    reading-dot w (l .bytes) (l .run) (l .i - 1) h (c .before .if4 .taken) (c .if5 .left)
+    let none = empty-label w _ _ (l .i) (l .inv) (c .before .before .before .loop-test .taken) (omega (arith, c .before .before .next-dot .ensures, c .before .if4 .taken)) in
+    refused w _ (c .no-name4 .ensures) (λ n s. invalid w n s none)
 
 no-name-requires-5 : tie.Need-no-name-requires-5 Inv-loop μ-loop
 no-name-requires-5 c κs = search needs
 
 returns-5 : tie.Need-returns-5 Inv-loop μ-loop
 returns-5 c =
-    let w = now (c .before .before .before .before .before .before .before .before .before .before .before .args .word) in
+    let w = now (c .before .before .before .before .before .before .before .before .before .before .before .before .before .before .before .before .before .args .word) in
     let l = c .before .before .before .before .before .loop in
-    let h = step-back w (l .bytes) (l .run) (l .i) (l .inv) (omega arith) in
-    refused w _ (c .no-name5 .ensures) (λ n s. long-label w (l .bytes) (l .run) (l .i - 1) h n s (c .before .before .if4 .left) (c .before .if6 .taken))
+    let none = long-label w _ _ (l .i) (l .inv) (c .before .before .before .before .loop-test .taken) (c .before .before .before .before .before .before .before .before .before .before .before .before .if3 .left) (omega (arith, c .before .before .before .next-dot .ensures, c .before .if5 .taken)) in
+    refused w _ (c .no-name5 .ensures) (λ n s. invalid w n s none)
 
-is-label-byte-requires : tie.Need-is-label-byte-requires Inv-loop μ-loop
-is-label-byte-requires c κs = search needs
+array-write-bytes : tie.Need-array-write-bytes Inv-loop μ-loop
+array-write-bytes c = omega arith
+
+sub-left : tie.Need-sub-left Inv-loop μ-loop
+sub-left c =
+    let l = c .before .before .before .before .loop in
+    some-left-over _ _ _ (l .i) (l .inv) (c .before .before .before .loop-test .taken) (c .before .before .before .before .before .before .before .before .before .before .before .if3 .left)
+
+add-i : tie.Need-add-i Inv-loop μ-loop
+add-i c = omega arith
+
+loop-less : tie.Need-loop-less Inv-loop μ-loop
+loop-less c = omega arith
+
+loop-again : tie.Need-loop-again Inv-loop μ-loop
+loop-again c =
+    let l = c .before .before .before .before .loop in
+    reading-more _ _ _ (l .i) (l .inv) (c .before .before .before .loop-test .taken) (c .before .before .before .before .before .before .before .before .before .before .before .if3 .left) _ (c .before .before .next-dot .ensures) (c .before .if4 .left) (omega arith)
 
 no-name-requires-6 : tie.Need-no-name-requires-6 Inv-loop μ-loop
 no-name-requires-6 c κs = search needs
 
 returns-6 : tie.Need-returns-6 Inv-loop μ-loop
 returns-6 c =
-    let w = now (c .before .before .before .before .before .before .before .before .before .before .before .before .before .args .word) in
-    let l = c .before .before .before .before .before .before .before .loop in
-    let h = step-back w (l .bytes) (l .run) (l .i) (l .inv) (omega arith) in
-    refused w _ (c .no-name6 .ensures)
-    (λ n s. other-byte w (l .bytes) (l .run) (l .i - 1) h n s (c .before .before .before .before .if4 .left) (sym (c .before .before .is-label-byte .ensures) ∙ not-true _ (c .before .if7 .taken)))
-
-lower-requires : tie.Need-lower-requires Inv-loop μ-loop
-lower-requires c κs = search needs
-
-add-bytes-2 : tie.Need-add-bytes-2 Inv-loop μ-loop
-add-bytes-2 c = omega arith
+    let w = now (c .before .before .before .before .before .before .before .before .before .before .before .before .before .before .before .args .word) in
+    let l = c .before .before .before .loop in
+    refused w _ (c .no-name6 .ensures) (λ n s. invalid w n s (strays-over w _ _ (l .i) (l .inv) (c .before .before .loop-test .left) (c .before .if6 .taken)))
 
 array-write-bytes-2 : tie.Need-array-write-bytes-2 Inv-loop μ-loop
 array-write-bytes-2 c = omega arith
 
-add-run : tie.Need-add-run Inv-loop μ-loop
-add-run c = omega arith
+add-t9 : tie.Need-add-t9 Inv-loop μ-loop
+add-t9 c = omega arith
 
-loop-less-2 : tie.Need-loop-less-2 Inv-loop μ-loop
-loop-less-2 c = omega arith
-
-loop-again-2 : tie.Need-loop-again-2 Inv-loop μ-loop
-loop-again-2 c =
-    let w = now (c .before .before .before .before .before .before .before .before .before .before .before .before .before .args .word) in
-    let l = c .before .before .before .before .before .before .before .loop in
-    let h = step-back w (l .bytes) (l .run) (l .i) (l .inv) (omega arith) in
-    reading-byte w (l .bytes) (l .run) (l .i - 1) h _ (c .lower .ensures) (c .before .before .before .before .if4 .left)
-    (sym (c .before .before .is-label-byte .ensures) ∙ not-false _ (c .before .if7 .left)) (omega arith)
-
-no-name-requires-7 : tie.Need-no-name-requires-7 Inv-loop μ-loop
-no-name-requires-7 c κs = search needs
+cast-t11 : tie.Need-cast-t11 Inv-loop μ-loop
+cast-t11 c = omega arith
 
 returns-7 : tie.Need-returns-7 Inv-loop μ-loop
 returns-7 c =
-    let w = now (c .before .before .before .before .before .before .before .before .before .args .word) in
-    let l = c .before .before .before .loop in
-    let h = at-first w (l .bytes) (l .run) (l .i) (l .inv) (omega arith) in
-    refused w _ (c .no-name7 .ensures) (λ n s. no-first-label w n s (sym (h .first) ∙ c .before .if8 .taken))
-
-array-write-bytes-3 : tie.Need-array-write-bytes-3 Inv-loop μ-loop
-array-write-bytes-3 c = omega arith
-
-add-t8 : tie.Need-add-t8 Inv-loop μ-loop
-add-t8 c = omega arith
-
-cast-t10 : tie.Need-cast-t10 Inv-loop μ-loop
-cast-t10 c = omega arith
-
-returns-8 : tie.Need-returns-8 Inv-loop μ-loop
-returns-8 c =
-    let w = now (c .before .before .before .before .before .before .before .before .args .word) in
+    let w = now (c .before .before .before .before .before .before .before .before .before .before .before .before .before .before .args .word) in
     let l = c .before .before .loop in
-    let h = at-first w (l .bytes) (l .run) (l .i) (l .inv) (omega arith) in
-    inl (reading-all w (l .bytes) (l .run) h (c .if8 .left))
+    inl (reading-all w _ _ (l .i) (l .inv) (c .before .loop-test .left) (c .if6 .left) (omega arith) (omega arith))
 
 pub from-text-spec : {M : Type 1} → statement M
 from-text-spec =
@@ -173,30 +162,29 @@ from-text-spec =
     shared-slice-read-if3
     no-name-requires-3
     returns-3
-    sub-i
+    slice-aggregate-put-canonical
+    put-canonical-requires
+    add-strays
+    sub-strays
+    part-strays-start
+    part-strays-end
+    strays-requires
     loop-holds
-    sub-i-2
-    shared-slice-read-b
+    next-dot-requires
+    sub-size
+    cast-size
     no-name-requires-4
     returns-4
-    add-bytes
-    array-write-bytes
-    loop-less
-    loop-again
     no-name-requires-5
     returns-5
-    is-label-byte-requires
+    array-write-bytes
+    sub-left
+    add-i
+    loop-less
+    loop-again
     no-name-requires-6
     returns-6
-    lower-requires
-    add-bytes-2
     array-write-bytes-2
-    add-run
-    loop-less-2
-    loop-again-2
-    no-name-requires-7
-    returns-7
-    array-write-bytes-3
-    add-t8
-    cast-t10
-    returns-8)
+    add-t9
+    cast-t11
+    returns-7)
