@@ -3,6 +3,7 @@ use crate::WireName;
 use crate::wire::LONGEST_LABEL;
 use crate::wire::put_canonical;
 use crate::wire::strays;
+use base::slice::put;
 ghost use mathlib.Core.Path.{_≡_};
 ghost use mathlib.Core.Logic.{_⊎_};
 ghost use Prim.Native.Nat.{_+_, _-_, _≤_, _<_};
@@ -116,27 +117,20 @@ pub fn from_text(word: &[u8]) -> WireName
     }
 }
 
-// Writes the text of a name into `to`, from index `at` on: one byte less than the name has.
+// Writes the text of a name into `to`, from index `at` on: one byte less than the name has. All its bytes but the first, and then a dot in the place of
+// each length.
 pub fn put_text(to: &mut [u8], at: usize, name: &[u8])
     requires { ⌜ at + length (now name) ≤ length (now to) + 1 ⌝ }
     ensures { λ _. ⌜ now (to .exit) ≡ overlay (now (to .entry)) at (spec.textOf (now (name .entry))) ⌝ }
 {
-    if name.len() == 0 {
+    let n = name.len();
+    if n == 0 {
         return;
     }
-    let last = name.len() - 1;
-    // how many bytes of the label are to come
-    let mut left = name[0];
-    let mut i: usize = 0;
-    while i < last {
-        let b = name[i + 1];
-        if left == 0 {
-            to[at + i] = DOT;
-            left = b;
-        } else {
-            to[at + i] = b;
-            left -= 1;
-        }
-        i += 1;
+    put(to, at, &name[1..]);
+    let mut i = name[0] as usize;
+    while i < n - 1 {
+        to[at + i] = DOT;
+        i += name[i + 1] as usize + 1;
     }
 }
