@@ -48,7 +48,7 @@ build() {
   local shim object source part job sanitize
   local shared=() harness=() running=()
   sanitizers
-  for part in harness "${what}_harness"; do
+  for part in lend harness "${what}_harness"; do
     # shellcheck disable=SC2086
     cc -std=c99 -O1 -g $warn $sanitize -Iinclude -c -o "$out/$part.o" "tests/$part.c" || stop "$part.c does not compile"
     harness+=("$out/$part.o")
