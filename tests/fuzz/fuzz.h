@@ -1,0 +1,39 @@
+/* What the targets share. A target takes an input apart into calls, asks the library each of them in every way that lend.h has, asks the second
+   implementation, and ends the program where they differ. */
+#ifndef FUZZ_H
+#define FUZZ_H
+
+#include "../lend.h"
+#include "plain.h"
+
+typedef void target_fn(const uint8_t *input, size_t len);
+target_fn try_message, try_listing, try_table;
+
+/* The bytes of an input that are not taken yet. Behind its end there are zeros. */
+struct input {
+    const uint8_t *at, *end;
+};
+
+uint8_t take(struct input *in);
+unsigned take_two(struct input *in);
+
+/* As many as are there, and no more than these */
+struct bytes take_slice(struct input *in, size_t len);
+
+/* Whether so many bytes are the same; none are, whatever the pointers */
+int same(const uint8_t *one, const uint8_t *other, size_t len);
+
+/* Ends the program: this call differs. */
+_Noreturn void differ(const char *call, const char *what, uint64_t library, uint64_t plain);
+
+/* Every comparison: ends the program unless the answers are the same, what may be written is so too, and all else is as it was lent. */
+void agree(const char *call, uint64_t library, uint64_t plain, int same_written, int all_as_lent);
+
+/* The answers that were compared, for those who count: by call and number, 0 is accepted */
+enum call { NAME, DHCID, CHECK, LOAD, ADD, REMOVE, CLEAR, WRITE, CALLS };
+enum { NUMBERS = 64 };
+extern const char *const CALL_NAMES[CALLS];
+extern uint64_t answers[CALLS][NUMBERS];
+void count(enum call call, uint64_t answer);
+
+#endif

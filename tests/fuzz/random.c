@@ -1,0 +1,553 @@
+/* Inputs for a target by chance, until so many calls were compared: random TARGET SEED CALLS FIND. They are sound with up to three faults, for what is
+   random all over is refused at once. A seed gives the same inputs everywhere. An input that ends the program is written to the file FIND. */
+#include <fcntl.h>
+#include <inttypes.h>
+#include <signal.h>
+#include <stdio.h>
+#include <stdlib.h>
+#include <string.h>
+#include <unistd.h>
+
+#include "fuzz.h"
+
+/* The input that is being made, and tried */
+static uint8_t input[2 * VICHRELKA_LISTING_LIMIT];
+static size_t len;
+static const char *find_path;
+
+/* Chance */
+
+static uint64_t state;
+
+static uint32_t chance(uint32_t below) /* splitmix64 */
+{
+    uint64_t z = state += 0x9e3779b97f4a7c15u;
+    z = (z ^ z >> 30) * 0xbf58476d1ce4e5b9u;
+    z = (z ^ z >> 27) * 0x94d049bb133111ebu;
+    return (uint32_t)((z ^ z >> 31) >> 32) % below;
+}
+
+static int one_in(uint32_t n) { return chance(n) == 0; }
+
+static void put(uint8_t byte) { input[len++] = byte; }
+
+static void put_random(size_t count)
+{
+    while (count-- > 0)
+        put((uint8_t)chance(256));
+}
+
+static void put_text(const char *text)
+{
+    while (*text)
+        put((uint8_t)*text++);
+}
+
+/* one of the words of a text */
+static const char *one_of(const char *const *words, size_t count) { return words[chance((uint32_t)count)]; }
+#define ONE_OF(...) one_of((const char *const[]){__VA_ARGS__}, sizeof(const char *[]){__VA_ARGS__} / sizeof(char *))
+
+/* Up to three bytes behind `from` change, go or come, in two inputs of three. */
+static void damage(size_t from)
+{
+    for (uint32_t faults = one_in(3) ? 0 : chance(4); faults > 0 && len > from; faults--) {
+        size_t at = from + chance((uint32_t)(len - from));
+        switch (chance(4)) {
+        case 0:
+            input[at] = (uint8_t)chance(256);
+            break;
+        case 1:
+            input[at] = (uint8_t)(input[at] + (one_in(2) ? 1 : 255));
+            break;
+        case 2:
+            memmove(input + at, input + at + 1, --len - at);
+            break;
+        default:
+            memmove(input + at + 1, input + at, len++ - at);
+            input[at] = (uint8_t)chance(256);
+        }
+    }
+    if (one_in(32) && len > from)
+        len -= chance((uint32_t)(len - from));
+}
+
+/* Messages */
+
+static char label_byte(void) { return "abcdefghijklmnopqrstuvwxyzABCDEFGHIJKLMNOPQRSTUVWXYZ0123456789-_"[chance(64)]; }
+
+/* A name in wire form, mostly proper: short, or around 255 bytes */
+static void put_name(void)
+{
+    int is_long = one_in(8);
+    uint32_t labels = is_long ? 4 : 1 + chance(4);
+    for (uint32_t i = 0; i < labels; i++) {
+        uint32_t label = is_long ? (i < 3 ? 63 : 60 + chance(4)) : 1 + chance(one_in(4) ? 64 : 12);
+        put((uint8_t)label);
+        for (; label > 0; label--)
+            put((uint8_t)(one_in(1000) ? chance(256) : (uint32_t)label_byte()));
+    }
+    if (!one_in(40))
+        put(0);
+}
+
+/* What was put since `at` gets its length, in so many bytes before it. */
+static void set_length(size_t at, int bytes)
+{
+    size_t count = len - at;
+    input[at - 1] = (uint8_t)count;
+    if (bytes == 2)
+        input[at - 2] = (uint8_t)(count >> 8);
+}
+
+static size_t begin_option(uint32_t family, unsigned code)
+{
+    if (family == 6) {
+        put((uint8_t)(code >> 8));
+        put((uint8_t)code);
+        put(0);
+    } else {
+        put((uint8_t)code);
+    }
+    put(0);
+    return len;
+}
+
+static void put_client_name(uint32_t family)
+{
+    size_t at = begin_option(family, family == 6 ? 39 : 81);
+    put((uint8_t)(one_in(4) ? chance(256) : 5));
+    if (family == 4)
+        put_random(2);
+    if (one_in(20))
+        len = at + chance(3);
+    else
+        put_name();
+    set_length(at, family == 6 ? 2 : 1);
+}
+
+static void put_identifier(uint32_t family)
+{
+    size_t at = begin_option(family, family == 6 ? 1 : 61);
+    uint32_t count = one_in(4) ? chance(12) : one_in(4) ? 125 + chance(15) : 6 + chance(20);
+    put_random(count);
+    if (count > 0 && one_in(2))
+        input[at] = 255;
+    set_length(at, family == 6 ? 2 : 1);
+}
+
+static void put_other(uint32_t family)
+{
+    static const uint8_t CODES[] = {52, 53, 61, 81, 1, 9, 39, 0, 12, 50, 55, 82};
+    size_t at = begin_option(family, one_in(16) ? CODES[chance(sizeof CODES)] : 100 + chance(100));
+    put_random(chance(one_in(8) ? 200 : 8));
+    set_length(at, family == 6 ? 2 : 1);
+}
+
+static void put_options(uint32_t family)
+{
+    uint32_t left = family == 4 ? 7 : 6; /* a bit for each: client's name, identifier, type */
+    if (one_in(8))
+        left &= chance(8);
+    else if (one_in(3))
+        left &= ~2u | (family == 6 ? 2u : 0u);
+    if (!one_in(4))
+        left |= 1;
+    while (left != 0 || one_in(3)) {
+        uint32_t which = chance(4);
+        uint32_t bit = which < 3 ? 1u << which : 0;
+        if (which == 3)
+            put_other(family);
+        else if (!(left & bit))
+            continue;
+        else if (which == 0)
+            put_client_name(family);
+        else if (which == 1)
+            put_identifier(family);
+        else if (family == 4)
+            put_text(one_in(40) ? "\x35\1\1" : "\x35\1\3");
+        left &= ~bit;
+        if (one_in(50))
+            left |= bit;
+        if (family == 4 && one_in(8))
+            put(0);
+    }
+}
+
+static void put_v4(void)
+{
+    put((uint8_t)(one_in(100) ? chance(4) : 1));
+    put((uint8_t)(one_in(4) ? chance(256) : 1));
+    put((uint8_t)(one_in(8) ? chance(20) : 6));
+    put_random(25 + 16);
+    memset(input + len, 0, 192);
+    len += 192;
+    put_text("\x63\x82\x53\x63");
+    put_options(4);
+    if (!one_in(40))
+        put(255);
+    if (one_in(8))
+        put_random(chance(one_in(8) ? 2000 : 40));
+}
+
+static void put_v6(uint32_t relays)
+{
+    size_t at;
+    if (relays == 0) {
+        put("\3\5\6\3\5\6\3\1\x0d"[chance(one_in(30) ? 9 : 6)]);
+        put_random(3);
+        put_options(6);
+        return;
+    }
+    put(12);
+    put_random(33);
+    if (one_in(3)) {
+        at = begin_option(6, 18);
+        put_random(chance(9));
+        set_length(at, 2);
+    }
+    for (uint32_t times = one_in(60) ? chance(3) : 1; times > 0; times--) {
+        at = begin_option(6, 9);
+        put_v6(relays - 1);
+        set_length(at, 2);
+    }
+    if (one_in(8))
+        put_other(6);
+}
+
+static void make_message(void)
+{
+    int is6 = one_in(2);
+    put((uint8_t)(is6 | (one_in(3) ? 0 : 2) | (one_in(200) ? 4 : 0) | (one_in(200) ? 8 : 0)));
+    put((uint8_t)(one_in(16) ? 30 + chance(10) : 35 + chance(30)));
+    put(0);
+    size_t site = len;
+    if (!one_in(30))
+        put_name();
+    if (len - site > 255)
+        len = site + 255;
+    set_length(site, 1);
+    size_t message = len;
+    if (is6)
+        put_v6(one_in(2) ? 0 : chance(11));
+    else
+        put_v4();
+    damage(one_in(16) ? 0 : is6 || one_in(8) ? message : message + 240);
+}
+
+/* Listings */
+
+static void put_blank(void)
+{
+    do
+        put_text(ONE_OF(" ", " ", " ", " ", "\t", "  "));
+    while (one_in(8));
+}
+
+/* between two words, when parentheses are open or may be */
+static void put_gap(int *is_open)
+{
+    put_blank();
+    if (!*is_open && one_in(12)) {
+        put_text(ONE_OF("(", "( ", "(;(x)\n"));
+        *is_open = 1;
+    }
+    if (*is_open && one_in(4))
+        put_text(ONE_OF("\n", "\n ", " ; a (comment\n", "\n\n\t"));
+    if (*is_open && one_in(8)) {
+        put_text(one_in(2) ? ")" : ") ");
+        *is_open = 0;
+    }
+}
+
+static void put_word(const char *text)
+{
+    for (; *text; text++)
+        put((uint8_t)(one_in(16) && *text >= 'A' && *text <= 'Z' ? *text + 32 : *text));
+}
+
+static void put_number(const char *form, uint32_t number)
+{
+    char text[16];
+    snprintf(text, sizeof text, form, number);
+    put_text(text);
+}
+
+static void put_dhcid(int *is_open)
+{
+    static const char BASE64[] = "ABCDEFGHIJKLMNOPQRSTUVWXYZabcdefghijklmnopqrstuvwxyz0123456789+/";
+    int is_hex = one_in(3), digits = is_hex ? 64 : 44;
+    if (is_hex) {
+        put_text("\\#");
+        put_gap(is_open);
+        put_text("35");
+        put_gap(is_open);
+        put_text(one_in(200) ? ONE_OF("000301", "000102", "010001") : ONE_OF("000001", "000101", "000201"));
+    } else {
+        put_text(one_in(200) ? ONE_OF("AAMB", "AAAC", "AQAB") : ONE_OF("AAAB", "AAEB", "AAIB"));
+    }
+    for (int i = 0; i < digits; i++) {
+        if (one_in(24) && (!is_hex || i % 2 == 0))
+            put_gap(is_open);
+        if (is_hex)
+            put((uint8_t)"0123456789abcdefABCDEF"[chance(22)]);
+        else /* the last one before the padding has two spare bits */
+            put((uint8_t)(i == digits - 1 ? '=' : BASE64[i == digits - 2 && !one_in(200) ? chance(16) * 4 : chance(64)]));
+    }
+}
+
+/* Owners are few, so that they meet again; some are long. */
+static void put_owner(uint32_t owners)
+{
+    if (one_in(40)) {
+        for (int i = 0; i < 3; i++)
+            for (int k = 0; k < 64; k++)
+                put((uint8_t)(k == 63 ? '.' : label_byte()));
+        for (uint32_t k = 59 + chance(4); k > 0; k--)
+            put((uint8_t)label_byte());
+    } else {
+        put_word(ONE_OF("TANK", "tank", "Tank"));
+        put_number("-%u", chance(owners));
+    }
+    put_text(one_in(4) ? ".example.com." : ".");
+}
+
+static void put_record(uint32_t owners)
+{
+    int is_open = 0;
+    put_owner(owners);
+    put_gap(&is_open);
+    if (one_in(3)) {
+        put_word("IN");
+        put_gap(&is_open);
+    }
+    switch (chance(3)) {
+    case 0:
+        put_word("A");
+        put_gap(&is_open);
+        for (int i = 0; i < 4; i++)
+            put_number(i ? ".%u" : "%u", chance(one_in(2000) ? 300 : 256));
+        break;
+    case 1:
+        put_word("AAAA");
+        put_gap(&is_open);
+        for (int i = 0; i < 8; i++)
+            put_number(ONE_OF(i ? ":%x" : "%x", i ? ":%04x" : "%04x", i ? ":%X" : "%X"), chance(one_in(2) ? 65536 : 16));
+        break;
+    default:
+        put_word("DHCID");
+        put_gap(&is_open);
+        put_dhcid(&is_open);
+    }
+    if (is_open)
+        put_text(ONE_OF(")", " )", "\n)"));
+}
+
+static void make_listing(void)
+{
+    put((uint8_t)(one_in(16) ? chance(3) : 15));
+    size_t text = len;
+    uint32_t records = one_in(64) ? 60 + chance(80) : chance(12), owners = one_in(2) ? 100000 : 1 + 4 * records;
+    for (uint32_t i = 0; i < records; i++) {
+        put_record(owners);
+        put_text(ONE_OF("\n", "\n", " ;a comment\n", "\n\n", ";\n  \n", "\t\n"));
+    }
+    damage(one_in(3) ? text : len);
+    if (one_in(2000))
+        for (size_t most = VICHRELKA_LISTING_LIMIT + chance(2); len - text < most;)
+            put('\n');
+}
+
+/* Tables: the steps are table.c's. */
+
+enum { PUT, SLOT, FILL, LENGTH, FIRST_CALL, CLEAR_CALL = FIRST_CALL + 2, WRITE_CALL, LOAD_CALL, STEPS };
+
+/* A small name's choice: proper, in lower case, and seldom one that FILL has as well */
+static uint8_t small_name(void)
+{
+    return (uint8_t)(chance(38) | (one_in(8) ? chance(4) : 2 + chance(2)) << 6);
+}
+
+/* seldom with the type 3, which is none */
+static uint8_t small_dhcid(void)
+{
+    return (uint8_t)(chance(64) << 2 | (one_in(40) ? 3 : chance(3)));
+}
+
+static void put_start(void)
+{
+    if (one_in(2)) {
+        put(FILL);
+        put((uint8_t)(one_in(2) ? 64 : chance(65)));
+    }
+    for (uint32_t slots = chance(6); slots > 0; slots--) {
+        uint8_t flags = (uint8_t)(one_in(400) ? chance(256) : 1 + chance(7));
+        put(SLOT);
+        put(small_name());
+        put(flags);
+        put_random((flags & HAS_A ? 1 : 0) + (flags & HAS_AAAA ? 1 : 0));
+        if (flags & HAS_DHCID)
+            put(small_dhcid());
+    }
+}
+
+static void put_two(uint32_t number)
+{
+    put((uint8_t)(number >> 8));
+    put((uint8_t)number);
+}
+
+/* The table is damaged: its length, or a byte, mostly one that says something */
+static void put_damage(void)
+{
+    if (one_in(8)) {
+        put(LENGTH);
+        put_two(one_in(2) ? VICHRELKA_TABLE_LEN - 2 + chance(5) : chance(20481));
+        return;
+    }
+    uint32_t slot = VICHRELKA_SLOT_LEN * chance(one_in(2) ? 4 : 64);
+    put(PUT);
+    put_two(slot + (one_in(2) ? chance(VICHRELKA_SLOT_LEN) : one_in(2) ? VICHRELKA_SLOT_FLAGS + chance(24) : chance(8)));
+    put(1);
+    put((uint8_t)chance(one_in(2) ? 8 : 256));
+}
+
+/* An add, a remove or a clear: of the name and the client of a slot, of others, or of what the input says */
+static void put_call(uint32_t step)
+{
+    uint8_t which = (uint8_t)chance(one_in(2) ? 8 : 64);
+    put((uint8_t)step);
+    put((uint8_t)(one_in(100) ? chance(256) : chance(2)));
+    if (one_in(16)) {
+        put(2);
+        put(0);
+        size_t name = len;
+        put_name();
+        if (len - name > 255)
+            len = name + 255;
+        set_length(name, 1);
+    } else {
+        int is_slot = !one_in(3);
+        put((uint8_t)(is_slot ? 1 | chance(2) << 1 : 0));
+        put(is_slot ? which : small_name());
+    }
+    if (step == CLEAR_CALL)
+        return;
+    if (one_in(24)) {
+        put_random(2 + chance(60));
+        return;
+    }
+    int is_holder = one_in(2), is_held = one_in(2);
+    put((uint8_t)(is_holder | chance(2) << 2 | (is_held ? 8 : 0)));
+    put(is_holder ? which : small_dhcid());
+    if (!is_held)
+        put((uint8_t)chance(256));
+}
+
+static void make_table(void)
+{
+    put_start();
+    for (uint32_t steps = 1 + chance(8); steps > 0; steps--) {
+        uint32_t step = FIRST_CALL + chance(STEPS - FIRST_CALL);
+        if (one_in(40))
+            put_damage();
+        if (step <= CLEAR_CALL) {
+            put_call(step);
+        } else {
+            put((uint8_t)step);
+            if (step == WRITE_CALL) {
+                put((uint8_t)chance(2));
+                put((uint8_t)(one_in(2) ? 0 : chance(4)));
+            } else {
+                uint32_t changes = one_in(2) ? 0 : chance(4);
+                put((uint8_t)changes);
+                for (; changes > 0; changes--) {
+                    put_random(2);
+                    put((uint8_t)(one_in(2) ? 32 + chance(95) : chance(256)));
+                }
+            }
+        }
+    }
+    damage(one_in(16) ? 0 : len);
+}
+
+/* Targets */
+
+static const struct {
+    const char *name;
+    target_fn *try;
+    void (*make)(void);
+} targets[] = {{"message", try_message, make_message}, {"listing", try_listing, make_listing}, {"table", try_table, make_table}};
+enum { TARGETS = sizeof targets / sizeof targets[0] };
+
+static void on_find(int number)
+{
+    int file = open(find_path, O_WRONLY | O_CREAT | O_TRUNC, 0644);
+    ssize_t written = file < 0 ? -1 : write(file, input, len);
+    static const char SAID[] = "a find: its input is written\n", LOST[] = "a find: its input cannot be written\n";
+    written = written == (ssize_t)len ? write(2, SAID, sizeof SAID - 1) : write(2, LOST, sizeof LOST - 1);
+    _exit(written < 0 ? 3 : number == SIGABRT ? 1 : 2);
+}
+
+/* Ctrl-C and SIGTERM: the answers so far are printed. */
+static volatile sig_atomic_t is_over;
+
+static void on_stop(int number)
+{
+    (void)number;
+    is_over = 1;
+}
+
+static uint64_t calls(void)
+{
+    uint64_t sum = 0;
+    for (int call = 0; call < CALLS; call++)
+        for (int number = 0; number < NUMBERS; number++)
+            sum += answers[call][number];
+    return sum;
+}
+
+static void print_answers(void)
+{
+    for (int call = 0; call < CALLS; call++) {
+        int is_first = 1;
+        for (int number = 0; number < NUMBERS; number++)
+            if (answers[call][number] != 0) {
+                if (is_first)
+                    printf("%s:", CALL_NAMES[call]);
+                is_first = 0;
+                if (number == 0)
+                    printf(" accepted %" PRIu64, answers[call][number]);
+                else
+                    printf(", %d %" PRIu64, number, answers[call][number]);
+            }
+        if (!is_first)
+            printf("\n");
+    }
+}
+
+int main(int argc, char **argv)
+{
+    int target = 0;
+    while (argc == 5 && target < TARGETS && strcmp(argv[1], targets[target].name) != 0)
+        target++;
+    if (argc != 5 || target == TARGETS) {
+        fprintf(stderr, "random: TARGET SEED CALLS FIND, where TARGET is message, listing or table\n");
+        return 2;
+    }
+    uint64_t seed = strtoull(argv[2], NULL, 10), most = strtoull(argv[3], NULL, 10), inputs = 0;
+    find_path = argv[4];
+    signal(SIGABRT, on_find);
+    signal(SIGSEGV, on_find);
+    signal(SIGBUS, on_find);
+    signal(SIGINT, on_stop);
+    signal(SIGTERM, on_stop);
+    for (; calls() < most && !is_over; inputs++) {
+        state = (seed << 40) + (inputs << 8);
+        len = 0;
+        targets[target].make();
+        targets[target].try(input, len);
+    }
+    printf("%s, seed %" PRIu64 ": %" PRIu64 " inputs, %" PRIu64 " calls, no difference\n", targets[target].name, seed, inputs, calls());
+    print_answers();
+    return 0;
+}

@@ -1,0 +1,71 @@
+"""Inputs for the fuzzer to begin with, from the edges of tests/ and the examples: seeds.py TARGET FOLDER."""
+
+import pathlib
+import re
+import sys
+from typing import Iterator
+
+HERE = pathlib.Path(__file__).resolve().parent
+ROOT = HERE.parents[1]
+sys.dont_write_bytecode = True
+sys.path.append(str(HERE.parent))
+
+import compare  # noqa: E402
+import load_edges  # noqa: E402
+import message_edges  # noqa: E402
+import table_edges  # noqa: E402
+
+PUT, SLOT, FILL, LENGTH, ADD, REMOVE, CLEAR, WRITE, LOAD = range(9)  # as in table.c
+STEP = {"add": ADD, "remove": REMOVE, "clear": CLEAR}
+TABLE_AREA = bytes([15])  # as in listing.c
+MOST_TABLE = 20480  # as in table.c
+MOST = 8192  # a longer input is slow to change
+
+
+def messages() -> Iterator[bytes]:
+    for edge in message_edges.read_edges():
+        call = edge.call
+        out = 35 if call.out_len is None else min(call.out_len, 255)
+        if max(len(call.site), call.family, call.setting) <= 255 and not any(edge.zeros):
+            yield bytes([4 | 8, out, len(call.site), call.family, call.setting]) + call.site + call.message
+
+
+def listings() -> Iterator[bytes]:
+    for path in sorted((ROOT / "examples").glob("*/*.listing")):
+        yield TABLE_AREA + path.read_bytes()
+    for edge in compare.read_edges(str(HERE.parent / "listing_edges.txt")):
+        yield TABLE_AREA + edge.text
+    for edge in load_edges.read_edges():
+        if edge.call.word == "load":
+            yield TABLE_AREA + edge.call.text
+
+
+def put_table(table: bytes) -> bytes:
+    """The steps that put this table where zeros were"""
+    steps = b""
+    for run in re.finditer(rb"(?:[^\0]|\0{1,8}(?=[^\0]))+", table):
+        for at in range(run.start(), run.end(), 255):
+            part = table[at:min(at + 255, run.end())]
+            steps += bytes([PUT]) + at.to_bytes(2, "big") + bytes([len(part)]) + part
+    return steps if len(table) == table_edges.TABLE_LENGTH else steps + bytes([LENGTH]) + len(table).to_bytes(2, "big")
+
+
+def tables() -> Iterator[bytes]:
+    for edge in table_edges.read_edges():
+        call = edge.call
+        if any(edge.zeros) or len(call.table) > MOST_TABLE or max(len(call.name), len(call.dhcid), len(call.address), call.family) > 255:
+            continue
+        step = bytes([STEP[call.word], call.policy & 1, 2, len(call.name)]) + call.name
+        if call.word != "clear":
+            step += bytes([2 | 64 | 128 | 16 | 32, len(call.dhcid)]) + call.dhcid + bytes([call.family, len(call.address)]) + call.address
+        yield put_table(call.table) + step + bytes([WRITE, 0, 0, LOAD, 0])
+    for edge in load_edges.read_edges():
+        if edge.call.word != "load" and not any(edge.zeros) and len(edge.call.table) <= MOST_TABLE:
+            yield put_table(edge.call.table) + bytes([WRITE, 1, 0, WRITE, 1, 1, LOAD, 0])
+
+
+if __name__ == "__main__":
+    target, folder = sys.argv[1], pathlib.Path(sys.argv[2])
+    for number, seed in enumerate({"message": messages, "listing": listings, "table": tables}[target]()):
+        if len(seed) <= MOST:
+            (folder / ("seed-%04d" % number)).write_bytes(seed)

@@ -1,0 +1,256 @@
+/* An input is a program on a table, which is all zeros at first: steps that put bytes there or ask a call, each with its arguments behind it. After
+   each call the table of the second implementation is the table. */
+#include <string.h>
+
+#include "fuzz.h"
+
+enum step { PUT, SLOT, FILL, LENGTH, ADD_STEP, REMOVE_STEP, CLEAR_STEP, WRITE_STEP, LOAD_STEP, STEPS };
+/* a table that is longer than it should be has to have room */
+enum { MOST_CALLS = 12, MOST_TABLE = 20480 };
+
+struct step_arguments {
+    uint8_t name_bytes[NAME_LIMIT + 1], dhcid_bytes[VICHRELKA_DHCID_LEN], address_bytes[16];
+    struct bytes name, dhcid, address;
+    uint32_t family, policy;
+};
+
+static uint8_t table[MOST_TABLE], plain_table[MOST_TABLE], listing[VICHRELKA_WRITTEN_LIMIT + 64];
+static size_t table_len;
+static struct room table_room, name_room, dhcid_room, address_room, text_room, out_room;
+
+static struct slot *slot_at(size_t number)
+{
+    return (struct slot *)table + number % VICHRELKA_TABLE_NAMES;
+}
+
+/* Names and slots */
+
+/* A proper name of few letters, so that some are the same: one short label, or full ones up to 255 bytes before it */
+static size_t small_name(uint8_t choice, uint8_t *name)
+{
+    size_t len = 0;
+    for (int i = choice >> 6; i > 0; i--) {
+        name[len++] = LABEL_LIMIT;
+        memset(name + len, 'l', LABEL_LIMIT);
+        len += LABEL_LIMIT;
+    }
+    size_t label = choice >> 6 == 3 ? 61 : 1;
+    name[len++] = (uint8_t)label;
+    memset(name + len, 'a', label);
+    name[len + label - 1] = "abcdefghijklmnopqrstuvwxyz0123456789-_ABCDEFGHIJKLMNOPQRSTUVWXYZ"[choice & 63];
+    len += label;
+    name[len++] = 0;
+    return len;
+}
+
+static void small_dhcid(uint8_t choice, uint8_t *dhcid)
+{
+    memset(dhcid, choice >> 2, VICHRELKA_DHCID_LEN);
+    dhcid[0] = 0;
+    dhcid[1] = choice & 3; /* 3 is none */
+    dhcid[2] = 1;
+}
+
+static void put_slot(struct input *in)
+{
+    int number = 0;
+    while (number < VICHRELKA_TABLE_NAMES - 1 && slot_at((size_t)number)->len != 0)
+        number++;
+    struct slot *s = slot_at((size_t)number);
+    memset(s, 0, sizeof *s);
+    s->len = (uint8_t)small_name(take(in), s->name);
+    s->flags = take(in);
+    if (s->flags & HAS_A)
+        memset(s->a, take(in), sizeof s->a);
+    if (s->flags & HAS_AAAA)
+        memset(s->aaaa, take(in), sizeof s->aaaa);
+    if (s->flags & HAS_DHCID)
+        small_dhcid(take(in), s->dhcid);
+}
+
+/* So many names with a client each; the last ones end alike */
+static void fill_table(uint8_t names)
+{
+    memset(table, 0, sizeof table);
+    for (size_t i = 0; i < (size_t)names % (VICHRELKA_TABLE_NAMES + 1); i++) {
+        struct slot *s = slot_at(i);
+        s->len = (uint8_t)small_name((uint8_t)(i % 38 | (i >= 38 ? 64 : 0)), s->name);
+        s->flags = HAS_A | HAS_DHCID;
+        s->a[3] = (uint8_t)i;
+        small_dhcid((uint8_t)(i << 2), s->dhcid);
+    }
+}
+
+/* Arguments */
+
+/* what is in a slot, what the input says, or a small one */
+static struct bytes take_name(struct input *in, uint8_t *room)
+{
+    uint8_t choice = take(in), which = take(in);
+    if (choice & 1) {
+        const struct slot *s = slot_at(which);
+        memcpy(room, s->name, s->len);
+        for (size_t i = 0; i < s->len; i++)
+            if (choice & 2 && room[i] >= 'a' && room[i] <= 'z')
+                room[i] = (uint8_t)(room[i] - 'a' + 'A');
+        return (struct bytes){room, s->len, 0};
+    }
+    if (choice & 2)
+        return take_slice(in, choice & 4 ? 256 : which);
+    return (struct bytes){room, small_name(which, room), 0};
+}
+
+static void take_client(struct input *in, struct step_arguments *a)
+{
+    uint8_t choice = take(in), which = take(in);
+    const struct slot *s = slot_at(which);
+    a->dhcid = (struct bytes){a->dhcid_bytes, sizeof a->dhcid_bytes, 0};
+    if (choice & 1)
+        memcpy(a->dhcid_bytes, s->dhcid, sizeof s->dhcid);
+    else if (choice & 2)
+        a->dhcid = take_slice(in, choice & 64 ? which : VICHRELKA_DHCID_LEN);
+    else
+        small_dhcid(which, a->dhcid_bytes);
+    a->family = choice & 128 ? take(in) : choice & 4 ? 6 : 4;
+    size_t address_len = a->family == 4 ? 4 : 16;
+    a->address = (struct bytes){a->address_bytes, address_len, 0};
+    if (choice & 8)
+        memcpy(a->address_bytes, a->family == 4 ? s->a : s->aaaa, address_len);
+    else if (choice & 16)
+        a->address = take_slice(in, choice & 32 ? take(in) : address_len);
+    else
+        memset(a->address_bytes, take(in), address_len);
+}
+
+/* Calls */
+
+static int arguments_as_lent(void)
+{
+    return is_as_lent(&name_room, 0) && is_as_lent(&dhcid_room, 0) && is_as_lent(&address_room, 0);
+}
+
+/* NULLS too if a slice is empty */
+static enum way last_way(enum step step, const struct step_arguments *a)
+{
+    return table_len == 0 || a->name.len == 0 || (step != CLEAR_STEP && (a->dhcid.len == 0 || a->address.len == 0)) ? NULLS : STARTS;
+}
+
+static void call_step(enum step step, const struct step_arguments *a)
+{
+    static const enum call CALL[STEPS] = {[ADD_STEP] = ADD, [REMOVE_STEP] = REMOVE, [CLEAR_STEP] = CLEAR};
+    struct bytes lent = {table, table_len, 0};
+    uint64_t plain, answer;
+    memcpy(plain_table, table, table_len);
+    if (step == ADD_STEP)
+        plain = table_add_plain(plain_table, table_len, a->name.first, a->name.len, a->dhcid.first, a->dhcid.len, a->family, a->address.first,
+                                a->address.len, a->policy);
+    else if (step == REMOVE_STEP)
+        plain = table_remove_plain(plain_table, table_len, a->name.first, a->name.len, a->dhcid.first, a->dhcid.len, a->family, a->address.first,
+                                   a->address.len);
+    else
+        plain = table_clear_plain(plain_table, table_len, a->name.first, a->name.len);
+    count(CALL[step], plain);
+    for (enum way way = ENDS; way <= last_way(step, a); way++) {
+        uint8_t *t = lend_or_null(&table_room, way, &lent);
+        const uint8_t *name = lend_or_null(&name_room, way, &a->name);
+        const uint8_t *dhcid = lend_or_null(&dhcid_room, way, &a->dhcid);
+        const uint8_t *address = lend_or_null(&address_room, way, &a->address);
+        if (step == ADD_STEP)
+            answer = vichrelka_table_add(t, table_len, name, a->name.len, dhcid, a->dhcid.len, a->family, address, a->address.len, a->policy);
+        else if (step == REMOVE_STEP)
+            answer = vichrelka_table_remove(t, table_len, name, a->name.len, dhcid, a->dhcid.len, a->family, address, a->address.len);
+        else
+            answer = vichrelka_table_clear(t, table_len, name, a->name.len);
+        agree(CALL_NAMES[CALL[step]], answer, plain, same(t, plain_table, table_len), is_as_lent(&table_room, table_len) && arguments_as_lent());
+    }
+    memcpy(table, plain_table, table_len);
+}
+
+/* Into an out that is long enough; with choice 1 it is so many bytes less than just so */
+static uint64_t call_write(uint8_t choice, uint8_t less)
+{
+    static uint8_t fill[sizeof listing];
+    uint64_t plain = table_write_plain(table, table_len, listing, sizeof listing);
+    size_t out_len = sizeof listing;
+    memset(fill, 0xa5, sizeof fill);
+    memcpy(listing, fill, sizeof listing);
+    if (choice & 1)
+        out_len = plain >> 32 != 0 ? less : plain > less ? plain - less : 0;
+    plain = table_write_plain(table, table_len, listing, out_len);
+    count(WRITE, plain);
+    for (enum way way = ENDS; way <= (table_len == 0 || out_len == 0 ? NULLS : STARTS); way++) {
+        const uint8_t *t = lend_or_null(&table_room, way, &(struct bytes){table, table_len, 0});
+        uint8_t *o = lend_or_null(&out_room, way, &(struct bytes){fill, out_len, 0});
+        uint64_t answer = vichrelka_table_write(t, table_len, o, out_len);
+        agree("write", answer, plain, same(o, listing, out_len), is_as_lent(&table_room, 0) && is_as_lent(&out_room, out_len));
+    }
+    return plain;
+}
+
+/* The table's own listing, with a byte changed or not, into an area that holds the table: changed or not, it comes back as the listing says. */
+static void call_load(struct input *in)
+{
+    uint64_t written = call_write(0, 0);
+    size_t text_len = written >> 32 == 0 ? (size_t)written : 0;
+    uint8_t changes = take(in) & 3;
+    for (; changes > 0 && text_len > 0; changes--) {
+        size_t at = take_two(in) % text_len;
+        listing[at] = take(in);
+    }
+    memcpy(plain_table, table, table_len);
+    uint64_t plain = table_load_plain(plain_table, table_len, listing, text_len);
+    count(LOAD, plain);
+    for (enum way way = ENDS; way <= (table_len == 0 || text_len == 0 ? NULLS : STARTS); way++) {
+        uint8_t *t = lend_or_null(&table_room, way, &(struct bytes){table, table_len, 0});
+        const uint8_t *text = lend_or_null(&text_room, way, &(struct bytes){listing, text_len, 0});
+        uint64_t answer = vichrelka_table_load(t, table_len, text, text_len);
+        agree("load", answer, plain, same(t, plain_table, table_len), is_as_lent(&table_room, table_len) && is_as_lent(&text_room, 0));
+    }
+    memcpy(table, plain_table, table_len);
+}
+
+void try_table(const uint8_t *input, size_t len)
+{
+    struct input in = {input, input + len};
+    int calls = 0;
+    memset(table, 0, sizeof table);
+    table_len = VICHRELKA_TABLE_LEN;
+    while (in.at < in.end && calls < MOST_CALLS) {
+        struct step_arguments a = {.policy = 0};
+        enum step step = take(&in) % STEPS;
+        calls += step >= ADD_STEP;
+        switch (step) {
+        case PUT: {
+            size_t at = take_two(&in) % MOST_TABLE;
+            struct bytes put = take_slice(&in, take(&in));
+            memcpy(table + at, put.first, put.len < MOST_TABLE - at ? put.len : MOST_TABLE - at);
+            break;
+        }
+        case SLOT:
+            put_slot(&in);
+            break;
+        case FILL:
+            fill_table(take(&in));
+            break;
+        case LENGTH:
+            table_len = take_two(&in) % (MOST_TABLE + 1);
+            break;
+        case WRITE_STEP: {
+            uint8_t choice = take(&in);
+            call_write(choice, take(&in));
+            break;
+        }
+        case LOAD_STEP:
+            call_load(&in);
+            break;
+        default: {
+            uint8_t policy = take(&in);
+            a.policy = policy & 2 ? policy : policy & 1;
+            a.name = take_name(&in, a.name_bytes);
+            if (step != CLEAR_STEP)
+                take_client(&in, &a);
+            call_step(step, &a);
+        }
+        }
+    }
+}
