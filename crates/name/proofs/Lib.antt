@@ -7,3 +7,4 @@ pub mod ReadingLaws
 pub mod DottedLaws
 pub mod Theorems
 pub mod StrayLaws
+pub mod MatchLaws

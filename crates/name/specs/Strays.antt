@@ -1,9 +1,11 @@
--- What the test of a name in canonical form counts: no meaning is defined by it.
-use Prim.Native.Nat.{ℕ, _+_}
+-- What the tests of a name in canonical form count and compare: no meaning is defined by it.
+use Prim.Native.Nat.{ℕ, _+_, _≤_, _<_}
 use mathlib.Core.Bool.{Bool, cond, _||_}
+use mathlib.Core.Path.{_≡_}
 use mathlib.Core.List.{List, [], _∷_}
 use lib.Dec.{eqb}
-use Rattle.name.specs.Label.{isLower, isDigit}
+use lib.ListN.{getD}
+use Rattle.name.specs.Label.{isLower, isDigit, lower}
 
 -- a byte of a label in canonical form: a small letter, a digit, a hyphen (45) or an underscore (95)
 unfoldable pub isSmall : ℕ → Bool
@@ -17,3 +19,7 @@ stray b = cond (isSmall b) 0 1
 unfoldable pub strays : List ℕ → ℕ
 strays [] = 0
 strays (b ∷ n) = stray b + strays n
+
+-- from index `from` on, and before index `to`, the bytes of m are those of n in lower case
+abbrev pub Agree : List ℕ → List ℕ → ℕ → ℕ → Type 0
+Agree n m from to = (j : ℕ) → from ≤ j → j < to → lower (getD n j 0) ≡ getD m j 0

@@ -1,5 +1,6 @@
 // Names in text: each label followed by a dot.
 use crate::WireName;
+use crate::wire::CHUNK;
 use crate::wire::LONGEST_LABEL;
 use crate::wire::put_canonical;
 use crate::wire::strays;
@@ -25,9 +26,6 @@ fn no_name() -> WireName
         len: 0,
     }
 }
-
-// How many bytes are looked at at a turn.
-const CHUNK: usize = 16;
 
 // From so many bytes on it pays to look at a chunk first.
 const FAR: usize = 64;

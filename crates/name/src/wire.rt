@@ -16,6 +16,9 @@ pub const LONGEST: usize = 255;
 // The longest label, in bytes.
 pub(crate) const LONGEST_LABEL: u8 = 63;
 
+// How many bytes are looked at at a turn, where that can be done.
+pub(crate) const CHUNK: usize = 16;
+
 // Is this a proper name and nothing after it? Each byte is looked at once.
 pub fn is_proper(name: &[u8]) -> bool
     ensures { λ r. ⌜ Decides r (spec.Proper (now (name .entry))) ⌝ }
@@ -118,7 +121,21 @@ pub fn canonical(name: &[u8]) -> [u8; 255]
     bytes
 }
 
-// Is `held`, which is in canonical form, the same name as `name`, which may be in any case?
+// Are the bytes of the chunk from `at` on the same, once `name` is in canonical form? With no way out before its end, so that it is taken at once.
+fn matches_chunk(name: &[u8], held: &[u8], at: usize) -> bool
+    requires { ⌜ (at + 16 ≤ length (now name)) × (at + 16 ≤ length (now held)) ⌝ }
+    ensures { λ r. ⌜ Decides r (count.Agree (now (name .entry)) (now (held .entry)) at (at + 16)) ⌝ }
+{
+    let mut same = true;
+    let mut i: usize = 0;
+    while i < CHUNK {
+        same = same & (lower(name[at + i]) == held[at + i]);
+        i += 1;
+    }
+    same
+}
+
+// Is `held`, which is in canonical form, the same name as `name`, which may be in any case? A chunk at a time, as far as there are chunks.
 pub fn matches(name: &[u8], held: &[u8]) -> bool
     ensures { λ r. ⌜ Decides r (spec.canonical (now (name .entry)) ≡ now (held .entry)) ⌝ }
 {
@@ -126,6 +143,12 @@ pub fn matches(name: &[u8], held: &[u8]) -> bool
         return false;
     }
     let mut i: usize = 0;
+    while CHUNK <= name.len() - i {
+        if !matches_chunk(name, held, i) {
+            return false;
+        }
+        i += CHUNK;
+    }
     while i < name.len() {
         if lower(name[i]) != held[i] {
             return false;
