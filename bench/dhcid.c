@@ -104,8 +104,9 @@ static void measure(const struct message *m)
         time_passes(vichrelka_pass, m, PASSES, &vichrelka);
         time_passes(plain_pass, m, PASSES, &plain);
     }
-    printf("%s, %zu bytes: %.2f million DHCIDs a second; plain C SHA-256 of the %zu bytes that are hashed %.2f million, ratio %.2f\n", m->what,
-           m->len, 1e-6 / vichrelka, m->hashed_len, 1e-6 / plain, plain / vichrelka);
+    char what[128];
+    snprintf(what, sizeof what, "DHCID of a whole message, %s, %zu bytes", m->what, m->len);
+    row(what, MILLIONS_A_SECOND, 0, vichrelka, "plain C, hash alone", plain);
 }
 
 int main(void)

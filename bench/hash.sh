@@ -3,21 +3,11 @@
 # OpenSSL runs twice, as it is and with the CPU's SHA extensions hidden from it: a compiler without intrinsics cannot reach those.
 set -euo pipefail
 cd "$(dirname "$0")/.."
-out=target/bench
-rt staticlib bench_hash >/dev/null 2>&1 || { echo "bench: 'rt staticlib bench_hash' failed: run it to see why" >&2; exit 1; }
-mkdir -p "$out"
-flags=()
-libs=()
-if printf '#include <openssl/sha.h>\n' | gcc -E - >/dev/null 2>&1; then
-  flags=(-DWITH_OPENSSL)
-  libs=(-lcrypto)
-else
-  echo "bench: no OpenSSL headers (Debian: libssl-dev), so without it"
-fi
-gcc -O2 -std=gnu11 -Wall -Wextra ${flags[@]+"${flags[@]}"} -o "$out/hash" bench/hash.c bench/sha256_plain.c \
-  target/staticlib/libbench_hash.a ${libs[@]+"${libs[@]}"}
-"$out/hash"
+. bench/build.bash
+archive bench_hash
+peer OPENSSL '#include <openssl/sha.h>' 'SHA256(0, 0, 0)' -lcrypto
+build hash bench/sha256_plain.c
+"$out/hash" OpenSSL
 if [ ${#libs[@]} -gt 0 ]; then
-  echo "with OpenSSL's use of the SHA extensions off:"
-  OPENSSL_ia32cap='~0x200000200000000:~0x20000000' "$out/hash"
+  OPENSSL_ia32cap='~0x200000200000000:~0x20000000' "$out/hash" "OpenSSL, no extensions" | grep extensions
 fi

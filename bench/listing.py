@@ -1,9 +1,10 @@
-"""Writes the two listings that bench/listing.c reads, long.txt and short.txt, into the folder given (target/bench by default).
+"""Writes the listings that bench/listing.c reads, long-0.txt to sixty-31.txt, into the folder given (target/bench by default).
 
-Both are as large as a listing may nearly be, and the same at every run: figures of two days can be compared only over the same bytes.
+The first two are as large as a listing may nearly be. All are the same at every run: figures of two days can be compared only over the same bytes.
   long    180 records whose owners are as long as names get (255 bytes in wire form): the time goes by the byte
   short   759 records of short names, three to a name: the time goes by the record
-Document 01's grammar decides how they are spelled, so there is no TTL, no relative name and no `::`.
+  sixty   60 names with three records each, as the library writes them: a table that is carried from one gateway to the next
+Each kind is there 32 times, with other data and other letters in upper case. Document 01's grammar decides how they are spelled, so there is no TTL, no relative name and no `::`.
 """
 import base64
 import hashlib
@@ -11,6 +12,7 @@ import pathlib
 import sys
 
 LIMIT = 65536
+TEXTS = 32
 LETTERS = "abcdefghijklmnopqrstuvwxyz0123456789-_"
 
 
@@ -38,8 +40,8 @@ def long_owner(k, source):
     return mixed(name, source)
 
 
-def a(k):
-    return f"192.0.{k // 250}.{k % 250 + 1}"
+def a(k, number):
+    return f"192.0.{k // 250}.{(k + 7 * number) % 250 + 1}"
 
 
 def aaaa(k, source):
@@ -48,34 +50,34 @@ def aaaa(k, source):
     return mixed(":".join(groups), source)
 
 
-def dhcid(k, owner):
+def dhcid(k, owner, number):
     """Two bytes of identifier type, one of digest type, and a digest: 48 characters."""
-    data = bytes([0, k % 3, 1]) + hashlib.sha256(owner.lower().encode()).digest()
+    data = bytes([0, k % 3, 1]) + hashlib.sha256(f"{number} {owner.lower()}".encode()).digest()
     text = base64.b64encode(data).decode()
     assert len(text) == 48
     return text
 
 
-def long_listing():
-    source = numbers("long")
+def long_listing(number):
+    source = numbers(f"long {number}")
     lines = []
     for k in range(180):
         owner = long_owner(k, source)
         start = owner + (mixed(" in", source) if k % 3 == 1 else "")
         if k % 3 == 0:
-            lines.append(f"{start} {mixed('a', source)} {a(k)} ; host {k}, address of the fourth version, kept by the gateway (room {k % 7}, shelf {k % 11})")
+            lines.append(f"{start} {mixed('a', source)} {a(k, number)} ; host {k}, address of the fourth version, kept by the gateway (room {k % 7}, shelf {k % 11})")
         elif k % 3 == 1:
             lines.append(f"{start} {mixed('aaaa', source)} {aaaa(k, source)} ; host {k}, address of the sixth version, kept by the gateway; rack {k % 5}")
         else:
-            text = dhcid(k, owner)
+            text = dhcid(k, owner, number)
             # cut after a whole group of four: libzscanner takes no other cut
             cut = 12 + 4 * (k % 7)
             lines.append(f"{start} {mixed('dhcid', source)} ( {text[:cut]} ; who holds host {k}, the first\n    {text[cut:]} ) ; and the rest of it")
     return lines, 180
 
 
-def short_listing():
-    source = numbers("short")
+def short_listing(number):
+    source = numbers(f"short {number}")
     lines = []
     for k in range(253):
         owner = f"n{k}.example.com."
@@ -84,14 +86,24 @@ def short_listing():
         owner_field = (name.ljust(24), name + "\t\t", name + " ")[k % 3]
         in_field = ("IN      ", "", "in ")[k % 3]
         place = f"; host {k}, room {k % 7}, shelf {k % 11}"
-        lines.append(f"{owner_field}{in_field}A{(' ' * 7, chr(9), ' ')[k % 3]}{a(k)} {place}")
+        lines.append(f"{owner_field}{in_field}A{(' ' * 7, chr(9), ' ')[k % 3]}{a(k, number)} {place}")
         lines.append(f"{owner_field}{in_field}{'AAAA' if k % 2 else 'aaaa'} {aaaa(k, source)} {place}")
-        text = dhcid(k, owner)
+        text = dhcid(k, owner, number)
         if k % 5 == 0:
             lines.append(f"{owner_field}{in_field}DHCID ( {text[:24]}\n    {text[24:]} ) ; client {k}, type {k % 3}")
         else:
             lines.append(f"{owner_field}{in_field}{'DHCID' if k % 2 else 'dhcid'} {text} ; client {k}, type {k % 3}")
     return lines, 759
+
+
+def sixty_listing(number):
+    source = numbers(f"sixty {number}")
+    lines = []
+    for k in range(60):
+        owner = f"{('tank', 'pump', 'valve', 'gauge', 'weather-mast')[k % 5]}-{k + 1}.{('bay', 'hall', 'greenhouse')[k % 3]}-{k % 12 + 1}.example.com."
+        groups = (f"{group:0>4}" for group in aaaa(k, source).lower().split(":"))
+        lines += [f"{owner} A {a(k, number)}", f"{owner} AAAA {':'.join(groups)}", f"{owner} DHCID {dhcid(k, owner, number)}"]
+    return lines
 
 
 def write(folder, name, listing, size):
@@ -110,8 +122,10 @@ def write(folder, name, listing, size):
 def main():
     folder = pathlib.Path(sys.argv[1] if len(sys.argv) > 1 else "target/bench")
     folder.mkdir(parents=True, exist_ok=True)
-    write(folder, "long", long_listing(), 65490)
-    write(folder, "short", short_listing(), 65468)
+    for number in range(TEXTS):
+        write(folder, f"long-{number}", long_listing(number), 65490)
+        write(folder, f"short-{number}", short_listing(number), 65468)
+        (folder / f"sixty-{number}.txt").write_text("".join(line + "\n" for line in sixty_listing(number)), encoding="ascii")
 
 
 main()

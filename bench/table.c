@@ -1,4 +1,4 @@
-/* The nanoseconds of the calls on the table of names, beside the same calls in plain C, in one run: see bench/table.sh.
+/* The time of the calls on the table of names, beside the same calls in plain C, in one run: see bench/table.sh.
  *
  * A case is a list of calls that leaves its table as it was, so that it can be timed over and over; every answer is checked. What is loaded is the
  * table's own listing, or one that is refused. */
@@ -18,6 +18,7 @@ enum { NAMES = VICHRELKA_TABLE_NAMES, ADDRESS_LIMIT = 16 };
 
 static const uint64_t HELD_BY_ANOTHER = (uint64_t)VICHRELKA_REFUSED_HELD_BY_ANOTHER << 32;
 static const uint64_t TABLE_FULL = (uint64_t)VICHRELKA_REFUSED_TABLE_FULL << 32;
+static const uint64_t RECORD_REPEATED = (uint64_t)VICHRELKA_REFUSED_RECORD_REPEATED << 32;
 
 /* what may stand in a label, in lower case */
 static const char IN_LABEL[] = "abcdefghijklmnopqrstuvwxyz0123456789-_";
@@ -192,11 +193,12 @@ static struct list *new_case(struct kind *k, const char *what, int units)
 }
 
 /* A case of one call with a listing */
-static void new_listing_case(struct kind *k, const char *what, int calls, struct step step)
+static struct list *new_listing_case(struct kind *k, const char *what, int calls, struct step step)
 {
     struct list *l = new_case(k, what, 1);
     l->calls = calls;
     l->steps[l->len++] = step;
+    return l;
 }
 
 /* As many names of one A as fit, the shortest first: none is there twice, which is seen only when all were compared. */
@@ -218,12 +220,27 @@ static const struct listing *crowd(void)
     }
 }
 
+/* As many records as fit, 5,041: each name is there very often, which is seen at once, and still every entry has to be read. */
+static const struct listing *repeats(void)
+{
+    static struct listing all;
+    for (int i = 0; sizeof all.text - all.len >= 13; i++) {
+        char line[16];
+        memcpy(all.text + all.len, line, (size_t)sprintf(line, "%c. A 1.2.3.4\n", IN_LABEL[i % LABEL_BYTES]));
+        all.len += 13;
+    }
+    return &all;
+}
+
 static void make_listing_cases(struct kind *k)
 {
     new_listing_case(k, "write", CALLS_LISTING, (struct step){.call = WRITE, .want = k->listing.len});
     new_listing_case(k, "load", CALLS_LISTING, (struct step){.call = LOAD, .listing = &k->listing});
-    if (k == &kinds[KINDS - 1])
-        new_listing_case(k, "load 4,470 names, refused (32)", CALLS_CROWD, (struct step){.call = LOAD, .listing = crowd(), .want = TABLE_FULL});
+    if (k == &kinds[KINDS - 1]) {
+        static const char MOST[] = "65,536 bytes of listing";
+        new_listing_case(k, "load 4,470 names, refused (32)", CALLS_CROWD, (struct step){.call = LOAD, .listing = crowd(), .want = TABLE_FULL})->kind = MOST;
+        new_listing_case(k, "load 5,041 records, refused (35)", CALLS_CROWD, (struct step){.call = LOAD, .listing = repeats(), .want = RECORD_REPEATED})->kind = MOST;
+    }
 }
 
 /* The call's name is the last one, which a search comes to last. */
@@ -339,8 +356,9 @@ static void measure(const struct kind *k, const struct list *l)
             time_passes(pass, &(struct turn){l, c}, passes, &best[c]);
         as_before(k, l);
     }
-    printf("%-30s  %-30s %9.0f ns, plain C %7.0f ns, ratio %.2f\n", k->what, l->what, 1e9 * best[VICHRELKA] / l->units,
-           1e9 * best[PLAIN] / l->units, best[PLAIN] / best[VICHRELKA]);
+    char what[128];
+    snprintf(what, sizeof what, "%s: %s", l->kind, l->what);
+    row(what, MICROSECONDS, 0, best[VICHRELKA] / l->units, "plain C", best[PLAIN] / l->units);
 }
 
 int main(void)
