@@ -38,7 +38,7 @@ nowhere-among n ns none = go (among n ns) refl
     go true e = let s = among-at n ns e in absurd (none (s .index) (s .within) (s .is))
     go false e = refl
 
-each-at : {P : List ℕ → Type 0} (ns : List (List ℕ)) → Every P ns → (i : ℕ) → i < length ns → P (getD ns i [])
+pub each-at : {P : List ℕ → Type 0} (ns : List (List ℕ)) → Every P ns → (i : ℕ) → i < length ns → P (getD ns i [])
 each-at [] h i lt = absurd (omega arith)
 each-at (m ∷ ns) (Every.more p h) zero lt = p
 each-at (m ∷ ns) (Every.more p h) (suc i) lt = each-at ns h i (omega arith)

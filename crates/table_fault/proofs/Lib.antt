@@ -3,8 +3,10 @@ pub mod WordLaws
 pub mod GivenLaws
 pub mod KeptLaws
 pub mod TypeLaws
+pub mod CountLaws
 pub mod LookLaws
 pub mod IndexLaws
+pub mod PlacedLaws
 pub mod SweepLaws
 pub mod TurnLaws
 pub mod FaultLaws

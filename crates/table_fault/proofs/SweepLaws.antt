@@ -12,16 +12,22 @@ use Rattle.listing.specs.Giving.{Last, end, Gives}
 use Rattle.records.specs.Gathered.{dataOf, Single, owners}
 use Rattle.records.proofs.DataLaws.{length-data-append, of-is, data-same}
 use Rattle.records.proofs.OwnerLaws.{among, by-among, owners-none, owners-more-by-new, no-data}
-use Rattle.table_fault.specs.Sweeping.{Kept, IndexOf, Met, Sweeps, endedAt}
+use Rattle.table_fault.specs.Sweeping.{Kept, IndexOf, Placed, Met, Sweeps, endedAt}
 use Rattle.table_fault.specs.declared.Outcome.the-variants as outcome
 use Rattle.table_fault.specs.declared.Seen.{Seen}
 use Rattle.table_fault.proofs.IndexLaws.{among-at, nowhere-among}
 use Rattle.table_fault.proofs.TypeLaws.{many, Flagged, flagged-each, flagged-twice}
+use Rattle.table_fault.proofs.CountLaws.{records-few}
+use Rattle.table_fault.proofs.PlacedLaws.{placed-none}
 
 -- an index below the number of names is the name's; any other is their number, and the name is new
 pub index-known : (ns : List (List ℕ)) (n : List ℕ) (i : ℕ) → IndexOf ns n i → i < length ns → getD ns i [] ≡ n
 unfolding IndexOf
 index-known ns n i h lt = ⊎-elim (λ w. w .1) (λ w. absurd (omega (arith, w .0))) h
+
+pub index-low : (ns : List (List ℕ)) (n : List ℕ) (i : ℕ) → IndexOf ns n i → i ≤ length ns
+unfolding IndexOf
+index-low ns n i h = ⊎-elim (λ w. omega (arith, w .0)) (λ w. omega (arith, w .0)) h
 
 pub index-new : (ns : List (List ℕ)) (n : List ℕ) (i : ℕ) → IndexOf ns n i → length ns ≤ i → (i ≡ length ns) × (among n ns ≡ false)
 unfolding IndexOf
@@ -37,7 +43,7 @@ module _ (t : List ℕ) (from : ℕ) (l : Last) where
         → Gives t rest (after ++ ahead) l → from < rest → rest < length t → Left before after ahead used rest
 
   -- of the records rs, after which l comes, those seen are behind, and those ahead are given from `at` on. The names of the records `before` are kept
-  pub record Swept (rs : List ResourceRecord) (starts marks types : List ℕ) (used rest at : ℕ) : Type 0 where
+  pub record Swept (rs : List ResourceRecord) (starts marks types : List ℕ) (used rest at : ℕ) (ps : List ℕ) (count : ℕ) : Type 0 where
     pub seen : List ResourceRecord
     pub ahead : List ResourceRecord
     pub before : List ResourceRecord
@@ -55,14 +61,18 @@ module _ (t : List ℕ) (from : ℕ) (l : Last) where
     pub starts-size : length starts ≡ 64
     pub marks-size : length marks ≡ 64
     pub types-size : length types ≡ 64
+    pub counted : count ≡ length seen
+    pub few : count ≤ at
+    pub placed : rest ≡ length t → length seen ≤ 192 → Placed seen ps
+    pub places-size : length ps ≡ 192
 
   no-names : (k : ℕ) → k < length (owners []) → ⊥
   no-names k lt = omega (arith, ap length owners-none)
 
-  pub swept-none : (rs : List ResourceRecord) (starts marks types : List ℕ) → Gives t from rs l → length starts ≡ 64 → length marks ≡ 64 → length types ≡ 64
-      → Swept rs starts marks types 0 (length t) from
+  pub swept-none : (rs : List ResourceRecord) (starts marks types ps : List ℕ) → Gives t from rs l → length starts ≡ 64 → length marks ≡ 64 → length types ≡ 64 → length ps ≡ 192
+      → Swept rs starts marks types 0 (length t) from ps 0
   unfolding Kept
-  swept-none rs starts marks types g s m ty =
+  swept-none rs starts marks types ps g s m ty size =
       record {
         seen = [];
         ahead = rs;
@@ -81,9 +91,13 @@ module _ (t : List ℕ) (from : ℕ) (l : Last) where
         starts-size = s;
         marks-size = m;
         types-size = ty;
+        counted = refl;
+        few = omega arith;
+        placed = λ whole fits. placed-none ps;
+        places-size = size;
       }
 
-  module _ {rs : List ResourceRecord} {starts marks types : List ℕ} {used rest at : ℕ} (w : Swept rs starts marks types used rest at) where
+  module _ {rs : List ResourceRecord} {starts marks types : List ℕ} {used rest at : ℕ} {ps : List ℕ} {count : ℕ} (w : Swept rs starts marks types used rest at ps count) where
     -- two records alike: the one that stands next, and one that was seen
     twice : (s : Seen) → Met t at (owners (w .before)) (w .ahead) l s → s .index < used → getD types (s .index) 0 / s .bit % 2 ≡ 1 → Single rs → ⊥
     unfolding Single
@@ -99,7 +113,7 @@ module _ (t : List ℕ) (from : ℕ) (l : Last) where
         omega (arith, single (r .owner) (r .rtype), one, all, two, here)
 
     pub repeated : (s : Seen) → Met t at (owners (w .before)) (w .ahead) l s → s .index < used → getD types (s .index) 0 / s .bit % 2 ≡ 1
-        → Sweeps t from 64 rs l (outcome.Repeat (s .next))
+        → Sweeps t from 64 rs l ps (outcome.Repeat (s .next))
     repeated s m lt set = (twice s m lt set, (m .later, m .gives))
 
     -- nothing is ahead: every name was kept, and no two records are alike; or some are left, and it depends on them
@@ -130,17 +144,20 @@ module _ (t : List ℕ) (from : ℕ) (l : Last) where
       unfolding Single dataOf
       none-single n k = omega arith
 
-      whole-sweeps : rest ≡ length t → w .after ≡ [] → Sweeps t from 64 rs l outcome.Whole
+      whole-sweeps : rest ≡ length t → w .after ≡ [] → Sweeps t from 64 rs l ps outcome.Whole
       whole-sweeps e none =
           let all : rs ≡ w .before = all-seen ∙ w .parts ∙ ap (λ (x : List ResourceRecord). w .before ++ x) none ∙ append-nil (w .before) in
-          (last, single-by (subst Single (sym none) none-single), omega (arith, w .long, w .room, ap (λ (x : List ResourceRecord). length (owners x)) all))
+          let single = single-by (subst Single (sym none) none-single) in
+          let room : length (owners rs) ≤ 64 = omega (arith, w .long, w .room, ap (λ (x : List ResourceRecord). length (owners x)) all) in
+          let fits : length (w .seen) ≤ 192 = omega (arith, records-few rs single, ap length all-seen) in
+          (last, single, room, subst (λ (x : List ResourceRecord). Placed x ps) (sym all-seen) (w .placed e fits))
 
-      ended-by : Left (w .before) (w .after) (w .ahead) used rest → Sweeps t from 64 rs l (endedAt (length t) rest)
+      ended-by : Left (w .before) (w .after) (w .ahead) used rest → Sweeps t from 64 rs l ps (endedAt (length t) rest)
       unfolding Single
-      ended-by (Left.all-kept e none) = subst (Sweeps t from 64 rs l) (sym (ap (λ (b : Bool). cond b outcome.Whole (outcome.Beyond rest)) (eq-eqb rest (length t) e))) (whole-sweeps e none)
+      ended-by (Left.all-kept e none) = subst (Sweeps t from 64 rs l ps) (sym (ap (λ (b : Bool). cond b outcome.Whole (outcome.Beyond rest)) (eq-eqb rest (length t) e))) (whole-sweeps e none)
       ended-by (Left.some-left r qs e new full g on within) =
           let not-end : rest ≡ length t → ⊥ = λ x. omega arith in
-          subst (Sweeps t from 64 rs l) (sym (ap (λ (b : Bool). cond b outcome.Whole (outcome.Beyond rest)) (ne-eqb rest (length t) not-end))) (
+          subst (Sweeps t from 64 rs l ps) (sym (ap (λ (b : Bool). cond b outcome.Whole (outcome.Beyond rest)) (ne-eqb rest (length t) not-end))) (
             last,
             record {
               left = w .after;
@@ -154,5 +171,5 @@ module _ (t : List ℕ) (from : ℕ) (l : Last) where
             },
           )
 
-      pub ended-sweeps : Sweeps t from 64 rs l (endedAt (length t) rest)
+      pub ended-sweeps : Sweeps t from 64 rs l ps (endedAt (length t) rest)
       ended-sweeps = ended-by (w .left)

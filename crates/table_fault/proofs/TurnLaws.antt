@@ -15,10 +15,11 @@ use Rattle.entry.specs.Parts.{number}
 use Rattle.listing.specs.Giving.{Last, Gives}
 use Rattle.records.specs.Gathered.{dataOf, owners}
 use Rattle.records.proofs.OwnerLaws.{among, owners-known, owners-new, owners-distinct, no-data}
-use Rattle.table_fault.specs.Sweeping.{mark, typeBit, BeginsWith, KeptName, Kept, Met}
+use Rattle.table_fault.specs.Sweeping.{mark, typeBit, BeginsWith, KeptName, Kept, IndexOf, Placed, Met}
 use Rattle.table_fault.specs.declared.Seen.{Seen}
 use Rattle.table_fault.proofs.IndexLaws.{at-among, distinct-at}
 use Rattle.table_fault.proofs.TypeLaws.{Flagged, flagged-none, flagged-more, flagged-other}
+use Rattle.table_fault.proofs.PlacedLaws.{placed-more}
 use Rattle.table_fault.proofs.SweepLaws.{index-known, index-new, Left, all-kept, some-left, Swept}
 
 -- no flag is set in 0
@@ -32,8 +33,8 @@ moved-on : (a b : List ResourceRecord) (r : ResourceRecord) (l ahead : List Reso
 moved-on a b r l ahead e o = e ∙ ap (λ (x : List ResourceRecord). b ++ x) o ∙ sym (append-snoc b r l)
 
 -- an entry that is no record
-pub swept-still : (t : List ℕ) (from : ℕ) (l : Last) {rs : List ResourceRecord} {starts marks types : List ℕ} {used rest at : ℕ} (w : Swept t from l rs starts marks types used rest at)
-    (next : ℕ) → at < next → Gives t next (w .ahead) l → Swept t from l rs starts marks types used rest next
+pub swept-still : (t : List ℕ) (from : ℕ) (l : Last) {rs : List ResourceRecord} {starts marks types : List ℕ} {used rest at : ℕ} {ps : List ℕ} {count : ℕ} (w : Swept t from l rs starts marks types used rest at ps count)
+    (next : ℕ) → at < next → Gives t next (w .ahead) l → Swept t from l rs starts marks types used rest next ps count
 swept-still t from l w next further g =
     record {
       seen = w .seen;
@@ -53,10 +54,14 @@ swept-still t from l w next further g =
       starts-size = w .starts-size;
       marks-size = w .marks-size;
       types-size = w .types-size;
+      counted = w .counted;
+      few = omega (arith, w .few);
+      placed = w .placed;
+      places-size = w .places-size;
     }
 
-module _ (t : List ℕ) (from : ℕ) (l : Last) {rs : List ResourceRecord} {starts marks types : List ℕ} {used rest at : ℕ} (w : Swept t from l rs starts marks types used rest at)
-    (s : Seen) (further : at < s .next) (m : Met t at (owners (w .before)) (w .ahead) l s) where
+module _ (t : List ℕ) (from : ℕ) (l : Last) {rs : List ResourceRecord} {starts marks types : List ℕ} {used rest at : ℕ} {ps : List ℕ} {count : ℕ} (w : Swept t from l rs starts marks types used rest at ps count)
+    (s : Seen) (further : at < s .next) (m : Met t at (owners (w .before)) (w .ahead) l s) (ps′ : List ℕ) (n : ℕ) (noted : ps′ ≡ set ps count (s .index)) (one-more : n ≡ count + 1) where
   abbrev r : ResourceRecord
   r = m .head
 
@@ -80,6 +85,20 @@ module _ (t : List ℕ) (from : ℕ) (l : Last) {rs : List ResourceRecord} {star
   parts-kept : w .after ≡ [] → seen′ ≡ w .before ++ r ∷ [] ++ []
   parts-kept none =
       ap (λ (x : List ResourceRecord). x ++ r ∷ []) (w .parts ∙ ap (λ (x : List ResourceRecord). w .before ++ x) none ∙ append-nil (w .before)) ∙ sym (append-nil (w .before ++ r ∷ []))
+
+  -- where its name stands was noted
+  count-more : n ≡ length seen′
+  count-more = omega (arith, w .counted, length-append (w .seen) (r ∷ []))
+
+  size-still : length ps′ ≡ 192
+  size-still = ap length noted ∙ length-set ps count (s .index) ∙ w .places-size
+
+  placed-on : rest ≡ length t → w .after ≡ [] → length seen′ ≤ 192 → Placed seen′ ps′
+  placed-on whole none fits =
+      let before : w .before ≡ w .seen = sym (w .parts ∙ ap (λ (x : List ResourceRecord). w .before ++ x) none ∙ append-nil (w .before)) in
+      subst (Placed seen′) (sym noted)
+      (placed-more (w .seen) r ps (s .index) count (w .counted) (omega (arith, count-more, w .counted, w .places-size)) (w .placed whole (omega (arith, count-more, w .counted)))
+      (subst (λ (x : List ResourceRecord). IndexOf (owners x) (r .owner) (s .index)) before (m .there)))
 
   gives-here : Gives t at (r ∷ m .later) l
   gives-here = subst (λ (x : List ResourceRecord). Gives t at x l) (m .order) (w .gives)
@@ -118,7 +137,7 @@ module _ (t : List ℕ) (from : ℕ) (l : Last) {rs : List ResourceRecord} {star
         go true e = subst (λ (k : ℕ). Flagged (getD ns k []) seen′ (getD types′ k 0)) (sym (eqb-true j i e)) flags-own
         go false e = flags-else j lj (eqb-false j i e)
 
-    known-by : Left t from l (w .before) (w .after) (w .ahead) used rest → Swept t from l rs starts marks types′ used rest (s .next)
+    known-by : Left t from l (w .before) (w .after) (w .ahead) used rest → Swept t from l rs starts marks types′ used rest (s .next) ps′ n
     known-by (all-kept e none) =
         let same = owners-known (w .before) r known in
         record {
@@ -139,6 +158,10 @@ module _ (t : List ℕ) (from : ℕ) (l : Last) {rs : List ResourceRecord} {star
           starts-size = w .starts-size;
           marks-size = w .marks-size;
           types-size = length-set types i (getD types i 0 + s .bit) ∙ w .types-size;
+          counted = count-more;
+          few = omega (arith, w .few, further);
+          placed = λ whole fits. placed-on whole none fits;
+          places-size = size-still;
         }
     known-by (some-left q qs e new full g on within) =
         record {
@@ -159,9 +182,13 @@ module _ (t : List ℕ) (from : ℕ) (l : Last) {rs : List ResourceRecord} {star
           starts-size = w .starts-size;
           marks-size = w .marks-size;
           types-size = length-set types i (getD types i 0 + s .bit) ∙ w .types-size;
+          counted = count-more;
+          few = omega (arith, w .few, further);
+          placed = λ whole fits. absurd (omega arith);
+          places-size = size-still;
         }
 
-    pub swept-known : Swept t from l rs starts marks types′ used rest (s .next)
+    pub swept-known : Swept t from l rs starts marks types′ used rest (s .next) ps′ n
     swept-known = known-by (w .left)
 
   -- ---- the name is new
@@ -181,10 +208,10 @@ module _ (t : List ℕ) (from : ℕ) (l : Last) {rs : List ResourceRecord} {star
       is-full : 64 ≤ used
       is-full = omega (arith, w .long, new-there .0)
 
-      pub swept-beyond : rest ≡ length t → Swept t from l rs starts marks types used at (s .next)
+      pub swept-beyond : rest ≡ length t → Swept t from l rs starts marks types used at (s .next) ps′ n
       swept-beyond e = go (w .left)
         where
-          go : Left t from l (w .before) (w .after) (w .ahead) used rest → Swept t from l rs starts marks types used at (s .next)
+          go : Left t from l (w .before) (w .after) (w .ahead) used rest → Swept t from l rs starts marks types used at (s .next) ps′ n
           go (some-left q qs a new f g on inside) = absurd (omega arith)
           go (all-kept a none) =
               record {
@@ -205,12 +232,16 @@ module _ (t : List ℕ) (from : ℕ) (l : Last) {rs : List ResourceRecord} {star
                 starts-size = w .starts-size;
                 marks-size = w .marks-size;
                 types-size = w .types-size;
+                counted = count-more;
+                few = omega (arith, w .few, further);
+                placed = λ whole fits. absurd (omega arith);
+                places-size = size-still;
               }
 
-      pub swept-past : (rest ≡ length t → ⊥) → Swept t from l rs starts marks types used rest (s .next)
+      pub swept-past : (rest ≡ length t → ⊥) → Swept t from l rs starts marks types used rest (s .next) ps′ n
       swept-past d = go (w .left)
         where
-          go : Left t from l (w .before) (w .after) (w .ahead) used rest → Swept t from l rs starts marks types used rest (s .next)
+          go : Left t from l (w .before) (w .after) (w .ahead) used rest → Swept t from l rs starts marks types used rest (s .next) ps′ n
           go (all-kept a none) = absurd (d a)
           go (some-left q qs a new f g on inside) =
               record {
@@ -231,6 +262,10 @@ module _ (t : List ℕ) (from : ℕ) (l : Last) {rs : List ResourceRecord} {star
                 starts-size = w .starts-size;
                 marks-size = w .marks-size;
                 types-size = w .types-size;
+                counted = count-more;
+                few = omega (arith, w .few, further);
+                placed = λ whole fits. absurd (d whole);
+                places-size = size-still;
               }
 
     -- or there is, and it is kept
@@ -296,7 +331,7 @@ module _ (t : List ℕ) (from : ℕ) (l : Last) {rs : List ResourceRecord} {star
           zero-add (typeBit (number (r .rtype))) ∙ sym (m .bit) ∙ sym (getD-set-same types (s .index) (s .bit) 0 (omega (arith, w .types-size))) in
           subst (λ (n : List ℕ). Flagged n seen′ (getD types″ (s .index) 0)) (sym at-new) (subst (Flagged (r .owner) seen′) v f)
 
-      pub swept-new : Swept t from l rs starts″ marks″ types″ (s .index + 1) rest (s .next)
+      pub swept-new : Swept t from l rs starts″ marks″ types″ (s .index + 1) rest (s .next) ps′ n
       unfolding Kept
       swept-new =
           let none = none-left (w .left) in
@@ -319,4 +354,8 @@ module _ (t : List ℕ) (from : ℕ) (l : Last) {rs : List ResourceRecord} {star
             starts-size = length-set starts (s .index) at ∙ w .starts-size;
             marks-size = length-set marks (s .index) (s .mark) ∙ w .marks-size;
             types-size = length-set types (s .index) (s .bit) ∙ w .types-size;
+            counted = count-more;
+            few = omega (arith, w .few, further);
+            placed = λ whole fits. placed-on whole (none .1) fits;
+            places-size = size-still;
           }

@@ -71,6 +71,10 @@ NotBefore i ns n = (j : ℕ) → j < i → getD ns j [] ≡ n → ⊥
 unfoldable pub IndexOf : List (List ℕ) → List ℕ → ℕ → Type 0
 IndexOf ns n i = ((i < length ns) × (getD ns i [] ≡ n)) ⊎ ((i ≡ length ns) × NotBefore (length ns) ns n)
 
+-- where the name of each of the records rs stands among the names before it: ps has that in the order of the records
+unfoldable pub Placed : List ResourceRecord → List ℕ → Type 0
+Placed rs ps = (a b : List ResourceRecord) (r : ResourceRecord) → rs ≡ a ++ r ∷ b → IndexOf (owners a) (r .owner) (getD ps (length a) 0)
+
 -- ---- one entry
 
 -- it is the first of the records rs, with where its name stands among the names kept; l comes after them all
@@ -91,7 +95,7 @@ pub record SeenIs (t : List ℕ) (at : ℕ) (ns : List (List ℕ)) (s : Seen) : 
   pub nothing : s .faulty ≡ false → s .found ≡ false → (rs : List ResourceRecord) (l : Last) → Gives t at rs l → Gives t (s .next) rs l
   pub met : s .found ≡ true → (rs : List ResourceRecord) (l : Last) → Gives t at rs l → Met t at ns rs l s
 
--- ---- what a sweep finds over the records rs, after which l comes, with room for so many names
+-- ---- what a sweep finds over the records rs, after which l comes, with room for so many names; ps is what it leaves of where they stand
 
 -- from the offset `at` on, records qs are left of which as much is still to be asked as of rs; and rs have more names than there is room for
 pub record Beyond (t : List ℕ) (from places : ℕ) (rs : List ResourceRecord) (at : ℕ) : Type 0 where
@@ -103,11 +107,11 @@ pub record Beyond (t : List ℕ) (from places : ℕ) (rs : List ResourceRecord) 
   pub back : Single rs → Single left
   pub many : places < length (owners rs)
 
-abbrev pub Sweeps : List ℕ → ℕ → ℕ → List ResourceRecord → Last → Outcome → Type 0
-Sweeps t from places rs l (outcome.Fault n offset) = l ≡ refusal n offset
-Sweeps t from places rs l (outcome.Repeat at) = (Single rs → ⊥) × ((qs : List ResourceRecord) × Gives t at qs l)
-Sweeps t from places rs l outcome.Whole = (l ≡ end) × Single rs × (length (owners rs) ≤ places)
-Sweeps t from places rs l (outcome.Beyond at) = (l ≡ end) × Beyond t from places rs at
+abbrev pub Sweeps : List ℕ → ℕ → ℕ → List ResourceRecord → Last → List ℕ → Outcome → Type 0
+Sweeps t from places rs l ps (outcome.Fault n offset) = l ≡ refusal n offset
+Sweeps t from places rs l ps (outcome.Repeat at) = (Single rs → ⊥) × ((qs : List ResourceRecord) × Gives t at qs l)
+Sweeps t from places rs l ps outcome.Whole = (l ≡ end) × Single rs × (length (owners rs) ≤ places) × Placed rs ps
+Sweeps t from places rs l ps (outcome.Beyond at) = (l ≡ end) × Beyond t from places rs at
 
 -- by where the first record stands whose name was not kept; the listing's length if there is none
 abbrev pub endedAt : ℕ → ℕ → Outcome
@@ -124,7 +128,7 @@ abbrev pub faultOr : ℕ → Last → Answer
 faultOr n end = Refused n 0
 faultOr n (refusal m p) = Refused m p
 
--- by what comes after the records: a refusal is the answer; else it is the first fault of the records, if they have one
-abbrev pub Judges : List ResourceRecord → Last → Answer → Type 0
-Judges rs (refusal n p) r = r ≡ Refused n p
-Judges rs end r = ((r ≡ Accepted 0) × AllHold (recordTests 64 rs)) ⊎ ((n : ℕ) × (r ≡ Refused n 0) × FirstFault (recordTests 64 rs) n)
+-- by what comes after the records: a refusal is the answer; else it is the first fault of the records, if they have one; and else ps says where they stand
+abbrev pub Judges : List ResourceRecord → Last → List ℕ → Answer → Type 0
+Judges rs (refusal n p) ps r = r ≡ Refused n p
+Judges rs end ps r = ((r ≡ Accepted 0) × AllHold (recordTests 64 rs) × Placed rs ps) ⊎ ((n : ℕ) × (r ≡ Refused n 0) × FirstFault (recordTests 64 rs) n)

@@ -14,7 +14,7 @@ use name::wire::matches;
 ghost use mathlib.Core.Path.{_≡_};
 ghost use mathlib.Core.List.{List};
 ghost use Prim.Native.Nat.{ℕ, _+_, _*_, _%_, _^_, _≤_, _<_};
-ghost use lib.ListN.{length, drop};
+ghost use lib.ListN.{length, drop, set};
 ghost use Rattle.base.specs.Logic.{Decides};
 ghost use Rattle.grammar.specs.Listing.{ResourceRecord};
 ghost use Rattle.listing.specs.Giving.{Last, end, Gives};
@@ -24,6 +24,9 @@ ghost use Rattle.table_fault.specs.Sweeping as spec;
 
 // How many names a sweep keeps: as many as a table has.
 const KEPT: usize = 64;
+
+// How many records a table has at most: three to a name.
+pub const RECORDS: usize = 192;
 
 // How many bytes of a name go into its number at most.
 const MARKED: usize = 32;
@@ -195,6 +198,18 @@ fn look(text: &[u8], at: usize, starts: &[u32], marks: &[u32], used: usize) -> S
     }
 }
 
+// Keeps where the name of one record more stands, as far as there is room.
+fn note(places: &mut [u8], count: usize, i: usize) -> usize
+    requires { ⌜ (count ≤ 65536) × (i ≤ 255) ⌝ }
+    ensures { λ r. ⌜ (r ≡ count + 1) × (now (places .exit) ≡ set (now (places .entry)) count i) ⌝ }
+{
+    if count < places.len() {
+        places[count] = i as u8;
+        return count + 1;
+    }
+    count + 1
+}
+
 // What a sweep came to whose first record of a name that it could not keep stands at `rest`; that is the listing's length if there is none.
 fn ended(length: usize, rest: usize) -> Outcome
     ensures { λ r. ⌜ r ≡ spec.endedAt length rest ⌝ }
@@ -206,14 +221,15 @@ fn ended(length: usize, rest: usize) -> Outcome
 }
 
 // Reads all entries from `from` on, and looks at their records.
-fn sweep(text: &[u8], from: usize) -> Outcome
-    requires { ⌜ length (now text) ≤ 65536 ⌝ }
-    ensures { λ r. ⌜ ((rs : List ResourceRecord) (l : Last) → Gives (now (text .entry)) from rs l → spec.Sweeps (now (text .entry)) from 64 rs l r) ⌝ }
+fn sweep(text: &[u8], from: usize, places: &mut [u8]) -> Outcome
+    requires { ⌜ (length (now text) ≤ 65536) × (length (now places) ≡ 192) ⌝ }
+    ensures { λ r. ⌜ ((rs : List ResourceRecord) (l : Last) → Gives (now (text .entry)) from rs l → spec.Sweeps (now (text .entry)) from 64 rs l (now (places .exit)) r) ⌝ }
 {
     let mut starts = [0u32; KEPT];
     let mut marks = [0u32; KEPT];
     let mut types = [0u8; KEPT];
     let mut used: usize = 0;
+    let mut count: usize = 0;
     let mut rest = text.len();
     let mut at = from;
     while at < text.len() {
@@ -229,6 +245,7 @@ fn sweep(text: &[u8], from: usize) -> Outcome
         let bit = seen.bit;
         at = seen.next;
         if seen.found {
+            count = note(places, count, i);
             if i < used {
                 if types[i] / bit % 2 == 1 {
                     return Outcome::Repeat(at);
@@ -248,13 +265,13 @@ fn sweep(text: &[u8], from: usize) -> Outcome
 }
 
 // There are more names than a table has: 32, unless two records are alike, here from `from` on, which comes first. The listing is right.
-fn fault_beyond(text: &[u8], from: usize) -> u32
-    requires { ⌜ (length (now text) ≤ 65536) × (spec.Right (now text) from) ⌝ }
+fn fault_beyond(text: &[u8], from: usize, places: &mut [u8]) -> u32
+    requires { ⌜ (length (now text) ≤ 65536) × (length (now places) ≡ 192) × (spec.Right (now text) from) ⌝ }
     ensures { λ r. ⌜ ((rs : List ResourceRecord) → Gives (now (text .entry)) from rs end → spec.RepeatOrFull rs r) ⌝ }
 {
     let mut at = from;
     loop {
-        match sweep(text, at) {
+        match sweep(text, at, places) {
             Outcome::Repeat(_) => return RECORD_REPEATED,
             Outcome::Whole => return TABLE_FULL,
             Outcome::Beyond(next) => at = next,
@@ -289,20 +306,22 @@ fn fault_after(text: &[u8], from: usize) -> Answer
     Answer::refused(RECORD_REPEATED)
 }
 
-// Reads a listing and answers 0 where its records make a table. Refusals: 17, and 20 to 24 with the offset of the faulty entry; 35; 32.
-pub fn judge(text: &[u8]) -> Answer
-    ensures { λ r. ⌜ ((rs : List ResourceRecord) (l : Last) → Gives (now (text .entry)) 0 rs l → spec.Judges rs l r) ⌝ }
+// Reads a listing and answers 0 where its records make a table; `places` has then, for each of them in order, the slot in which its name stands. Refusals: 17, and 20 to 24
+// with the offset of the faulty entry; 35; 32.
+pub fn judge(text: &[u8], places: &mut [u8]) -> Answer
+    requires { ⌜ length (now places) ≡ 192 ⌝ }
+    ensures { λ r. ⌜ ((rs : List ResourceRecord) (l : Last) → Gives (now (text .entry)) 0 rs l → spec.Judges rs l (now (places .exit)) r) ⌝ }
 {
     if LISTING_LIMIT < text.len() {
         return Answer::refused(LISTING_LONG);
     }
-    match sweep(text, 0) {
+    match sweep(text, 0, places) {
         Outcome::Fault { number, offset } => Answer::Refused {
             number: number,
             offset: offset,
         },
         Outcome::Repeat(at) => fault_after(text, at),
         Outcome::Whole => Answer::Accepted(0),
-        Outcome::Beyond(at) => Answer::refused(fault_beyond(text, at)),
+        Outcome::Beyond(at) => Answer::refused(fault_beyond(text, at, places)),
     }
 }

@@ -1,35 +1,48 @@
 -- A table that is filled record by record. Assumes nothing.
-use Prim.Native.Nat.{ℕ, _≤_, _<_}
+use Prim.Native.Nat.{ℕ, _+_, _*_, _≤_, _<_}
+use mathlib.Core.Bool.{Bool, true, false, cond, true≢false}
 use mathlib.Core.Path.{_≡_, refl, sym, ap, subst, _∙_}
 use mathlib.Core.List.{List, [], _∷_, _++_, append-nil}
-use mathlib.Core.Option.{none}
 use native.Mathlib.Omega.{arith}
-use types.Run.{OneOf}
-use denote.Enum.Declared.{tagOf}
-use lib.ListN.{length}
+use lib.Dec.{ltb}
+use lib.ListN.{length, getD, length-append}
 use lib.Seq.{append-snoc}
+use borrow.Author.Tests.{lt-ltb, le-ltb}
 use Rattle.base.specs.Logic.{Every}
 use Rattle.base.proofs.Lists.{every-middle, every-left}
+use Rattle.base.proofs.Tests.{by-ltb}
 use Rattle.grammar.specs.Listing.{ResourceRecord}
+use Rattle.entry.specs.EntryIs.{EntryIs}
+use Rattle.entry.specs.declared.Content.the-variants
+use Rattle.entry.specs.declared.Entry.{Entry}
 use Rattle.writer.specs.Line.{WellFormed, Holds}
-use Rattle.listing.specs.Reading.{StepIs}
-use Rattle.listing.specs.Giving.{end, Gives}
-use Rattle.listing.specs.declared.Found.the-variants
-use Rattle.listing.specs.declared.Step.{Step}
-use Rattle.listing.proofs.Found.{the-type}
+use Rattle.listing.specs.Reading.{limit}
+use Rattle.listing.specs.Giving.{Last, end, refusal, Gives}
 use Rattle.listing.proofs.Theorems.{one-giving}
-use Rattle.listing.proofs.NextLaws.{NextRecord, next-record, none-left, none-beyond}
-use Rattle.slots.specs.Form.{TableEntry, tableBytes, IsTable, Sound}
+use Rattle.listing.proofs.NextLaws.{within-limit, none-beyond}
+use Rattle.slots.specs.Form.{TableEntry, slotSize, tableBytes, IsTable, Sound}
 use Rattle.slots.proofs.Theorems.{one-table}
-use Rattle.table.specs.Steps.{find}
+use Rattle.table.specs.Promise.{placeOf}
+use Rattle.table.specs.declared.place.Place.the-variants.{Held, Free}
 use Rattle.records.specs.Gathered.{Single, dataOf, owners, tableOf}
 use Rattle.records.specs.Promise.{stored}
 use Rattle.records.proofs.DataLaws.{of-is, data-same, length-data-append}
-use Rattle.records.proofs.OwnerLaws.{owners-no-fewer, owners-more-by-new}
-use Rattle.records.proofs.StoredLaws.{table-none, length-table-of, none-found, stored-table}
-use Rattle.records.proofs.SoundLaws.{table-is, table-sound}
+use Rattle.records.proofs.OwnerLaws.{among, owners-none, owners-known, length-owners-new, owners-no-fewer, owners-more-by-new}
+use Rattle.records.proofs.StoredLaws.{table-none, table-names, length-table-of, found-none, stored-table}
+use Rattle.records.proofs.SoundLaws.{table-is, table-sound, table-distinct}
+use Rattle.table_fault.specs.Sweeping.{IndexOf, Placed}
+use Rattle.table_fault.proofs.CountLaws.{records-few}
+use Rattle.table_fault.proofs.GivenLaws.{FirstOf, fault-given, nothing-given, record-given}
+use Rattle.table_fault.proofs.IndexLaws.{at-among}
 use Rattle.table_fault.proofs.LookLaws.{given-well-formed}
-use Rattle.table_load.specs.Promise.{Room, Storable, Loadable, Filled}
+use Rattle.table_fault.proofs.SweepLaws.{index-known, index-new}
+use Rattle.table_load.specs.Promise.{AtSlot, Storable, Loadable, Filled}
+use Rattle.table_load.specs.declared.Progress.{Progress}
+use Rattle.table_load.proofs.SlotLaws.{place-held, place-free}
+
+isEnd : Last → Bool
+isEnd end = true
+isEnd (refusal n p) = false
 
 -- ---- records before and ahead
 
@@ -47,7 +60,7 @@ module _ (seen : List ResourceRecord) (r : ResourceRecord) (rest : List Resource
       no-bytes (dataOf n k seen)
       (omega (arith, single n k, length-data-append n k seen (r ∷ rest), ap length (data-same n k r rest (of-is n k r refl refl))))
 
-module _ (t : List ℕ) (at : ℕ) (b : List ℕ) (f : Filled t at b) where
+module _ (t ps : List ℕ) (p : Progress) (b : List ℕ) (f : Filled t ps p b) where
   each : Every WellFormed (f .seen)
   each = every-left (f .seen) (f .ahead) (given-well-formed (f .all .gives))
 
@@ -62,53 +75,114 @@ module _ (t : List ℕ) (at : ℕ) (b : List ℕ) (f : Filled t at b) where
   pub filled-sound : Sound 64 b
   filled-sound = subst (Sound 64) (sym (f .table)) (table-sound (f .seen) each 64 room)
 
-  module _ (s : Step) (step : StepIs t at s) where
-    pub next-of : s .found ≡ the-variants.Record → NextRecord t at (f .ahead) s
-    next-of q = next-record t at s step (f .ahead) (f .gives) q
+  module _ (e : Entry) (entry : EntryIs t (p .at) e) (within : p .at < length t) where
+    on : p .at < e .next
+    on = entry .on within
 
-    module _ (n : NextRecord t at (f .ahead) s) where
-      all : Loadable t (f .seen ++ n .head ∷ n .rest)
-      all = subst (λ (l : List ResourceRecord). Loadable t (f .seen ++ l)) (n .order) (f .all)
+    fits : length t ≤ limit
+    fits = within-limit (f .gives)
 
-      -- its owner has a slot
-      next-room : Room b (n .head .owner)
-      unfolding Room
-      next-room = λ u h absent.
-          let same = one-table 64 u (tableOf (f .seen)) b h is in
-          let new = none-found (f .seen) (n .head .owner) (subst (λ (v : List TableEntry). find (n .head .owner) v ≡ none) same absent) in
-          omega (arith, ap length same, length-table-of (f .seen), owners-more-by-new (f .seen) (n .head) (n .rest) new, all .room)
+    pub next-of : e .content ≡ the-variants.Record → FirstOf t (p .at) e (f .ahead) end
+    next-of q = record-given t fits (p .at) (f .ahead) end (f .gives) e entry on q
 
-      pub next-holds : Holds (s .«record») (n .head)
-      next-holds = record { place = n .holds; well-formed = every-middle (f .seen) (n .rest) (n .head) (given-well-formed (all .gives)) }
+    module _ (n : FirstOf t (p .at) e (f .ahead) end) where
+      abbrev name : List ℕ
+      name = n .head .owner
 
-      pub next-storable : Storable b (s .«record»)
-      unfolding Storable
-      next-storable = (n .head, next-holds, next-room)
+      all : Loadable t ps (f .seen ++ n .head ∷ n .later)
+      all = subst (λ (l : List ResourceRecord). Loadable t ps (f .seen ++ l)) (n .order) (f .all)
 
-      -- once it is stored it is one of those before
-      pub filled-more : (left : List ℕ) → ((u : List TableEntry) → IsTable 64 u b → left ≡ tableBytes 64 (stored (n .head) u)) → Filled t (s .next) left
-      filled-more left e =
-          record {
-            seen = f .seen ++ n .head ∷ [];
-            ahead = n .rest;
-            all = subst (Loadable t) (sym (append-snoc (f .seen) (n .head) (n .rest))) all;
-            gives = n .goes-on;
-            table = e (tableOf (f .seen)) is ∙ ap (tableBytes 64) (stored-table (f .seen) (n .head) (none-yet (f .seen) (n .head) (n .rest) (all .single)));
-          }
+      -- its place is one of 192
+      pub place-within : p .count < 192
+      place-within =
+          let rs = f .seen ++ n .head ∷ n .later in
+          omega (arith, f .counted, length-append (f .seen) (n .head ∷ n .later), records-few rs (all .single), all .room)
 
-    -- none was left
-    module _ (other : OneOf (1 ∷ 2 ∷ []) (tagOf the-type (s .found))) where
-      pub filled-still : Filled t (s .next) b
-      filled-still =
-          let n = none-left t at s step (f .ahead) (f .gives) other in
-          record { seen = f .seen; ahead = []; all = subst (λ (l : List ResourceRecord). Loadable t (f .seen ++ l)) (n .order) (f .all); gives = n .goes-on; table = f .table }
+      pub next-holds : Holds (e .«record») (n .head)
+      next-holds = record { place = n .holds; well-formed = every-middle (f .seen) (n .later) (n .head) (given-well-formed (all .gives)) }
 
-      pub still-on : at < length t → at < s .next
-      still-on more = omega (arith, none-left t at s step (f .ahead) (f .gives) other .done)
+      module _ (i : ℕ) (placed : i ≡ getD ps (p .count) 0) where
+        there : IndexOf (owners (f .seen)) name i
+        unfolding Placed
+        there =
+            subst (IndexOf (owners (f .seen)) name) (sym (placed ∙ ap (λ (k : ℕ). getD ps k 0) (f .counted)))
+            (all .placed (f .seen) (n .later) (n .head) refl)
+
+        -- the name is known, or new
+        known : i < p .used → (i < length (owners (f .seen))) × (getD (owners (f .seen)) i [] ≡ name)
+        known lt = let low : i < length (owners (f .seen)) = omega (arith, f .named) in (low, index-known (owners (f .seen)) name i there low)
+
+        new : p .used ≤ i → (i ≡ length (owners (f .seen))) × (among name (owners (f .seen)) ≡ false)
+        new le = index-new (owners (f .seen)) name i there (omega (arith, f .named))
+
+        still : i < p .used → owners (f .seen ++ n .head ∷ []) ≡ owners (f .seen)
+        still lt = let k = known lt in owners-known (f .seen) (n .head) (at-among name (owners (f .seen)) i (k .0) (k .1))
+
+        -- ---- its slot
+
+        held : i < p .used → placeOf 64 name (tableOf (f .seen)) ≡ Held (slotSize * i)
+        held lt =
+            let k = known lt in
+            let ns = table-names (f .seen) in
+            place-held name (tableOf (f .seen)) i (table-distinct (f .seen)) (subst (λ (l : List (List ℕ)). i < length l) (sym ns) (k .0)) (ap (λ (l : List (List ℕ)). getD l i []) ns ∙ k .1)
+
+        free : p .used ≤ i → placeOf 64 name (tableOf (f .seen)) ≡ Free (slotSize * i)
+        free le =
+            let k = new le in
+            let size : length (tableOf (f .seen)) ≡ i = length-table-of (f .seen) ∙ sym (k .0) in
+            place-free name (tableOf (f .seen)) (found-none (f .seen) name (k .1)) (omega (arith, k .0, owners-more-by-new (f .seen) (n .head) (n .later) (k .1), all .room))
+            ∙ ap (λ (j : ℕ). Free (slotSize * j)) size
+
+        slot-is : cond (ltb i (p .used)) (Held (slotSize * i)) (Free (slotSize * i)) ≡ placeOf 64 name (tableOf (f .seen))
+        slot-is =
+            by-ltb i (p .used) (λ lt. ap (λ (x : Bool). cond x (Held (slotSize * i)) (Free (slotSize * i))) (lt-ltb i (p .used) lt) ∙ sym (held lt))
+            (λ le. ap (λ (x : Bool). cond x (Held (slotSize * i)) (Free (slotSize * i))) (le-ltb i (p .used) le) ∙ sym (free le))
+
+        pub next-storable : Storable b (p .used) i (e .«record»)
+        unfolding Storable AtSlot
+        next-storable =
+            (n .head, next-holds, λ u h. subst (λ (v : List TableEntry). cond (ltb i (p .used)) (Held (slotSize * i)) (Free (slotSize * i)) ≡ placeOf 64 name v) (sym (one-table 64 u (tableOf (f .seen)) b h is)) slot-is)
+
+        -- ---- once it is stored it is one of those before
+
+        names-more : cond (ltb i (p .used)) (p .used) (i + 1) ≡ length (owners (f .seen ++ n .head ∷ []))
+        names-more =
+            by-ltb i (p .used)
+            (λ lt. ap (λ (x : Bool). cond x (p .used) (i + 1)) (lt-ltb i (p .used) lt) ∙ f .named ∙ sym (ap length (still lt)))
+            (λ le. ap (λ (x : Bool). cond x (p .used) (i + 1)) (le-ltb i (p .used) le) ∙ omega (arith, new le .0, length-owners-new (f .seen) (n .head) (new le .1)))
+
+        pub filled-more : (left : List ℕ) → ((u : List TableEntry) → IsTable 64 u b → left ≡ tableBytes 64 (stored (n .head) u)) → (used : ℕ) → used ≡ cond (ltb i (p .used)) (p .used) (i + 1)
+            → Filled t ps (record { at = e .next; count = p .count + 1; used = used }) left
+        filled-more left h used named =
+            record {
+              seen = f .seen ++ n .head ∷ [];
+              ahead = n .later;
+              all = subst (Loadable t ps) (sym (append-snoc (f .seen) (n .head) (n .later))) all;
+              gives = n .gives;
+              table = h (tableOf (f .seen)) is ∙ ap (tableBytes 64) (stored-table (f .seen) (n .head) (none-yet (f .seen) (n .head) (n .later) (all .single)));
+              counted = omega (arith, f .counted, length-append (f .seen) (n .head ∷ []));
+              named = named ∙ names-more;
+            }
+
+    pub filled-still : e .content ≡ the-variants.Nothing → Filled t ps (record { at = e .next; count = p .count; used = p .used }) b
+    filled-still q =
+        record {
+          seen = f .seen;
+          ahead = f .ahead;
+          all = f .all;
+          gives = nothing-given t fits (p .at) (f .ahead) end (f .gives) e entry on q;
+          table = f .table;
+          counted = f .counted;
+          named = f .named;
+        }
+
+    pub no-fault : (k : ℕ) → e .content ≡ the-variants.Fault k → ⊥
+    unfolding isEnd
+    no-fault k q = true≢false (ap isEnd (fault-given t fits (p .at) (f .ahead) end (f .gives) e entry k q))
 
   -- ---- the end
 
-  pub filled-all : length t ≤ at → (rs : List ResourceRecord) → Gives t 0 rs end → b ≡ tableBytes 64 (tableOf rs)
+  pub filled-all : length t ≤ p .at → (rs : List ResourceRecord) → Gives t 0 rs end → b ≡ tableBytes 64 (tableOf rs)
   filled-all done rs g =
       let everything : f .seen ++ f .ahead ≡ rs = one-giving t 0 _ rs end end (f .all .gives) g .0 in
       f .table
@@ -117,5 +191,6 @@ module _ (t : List ℕ) (at : ℕ) (b : List ℕ) (f : Filled t at b) where
 
 -- ---- the beginning
 
-pub filled-none : (t : List ℕ) (b : List ℕ) (rs : List ResourceRecord) → Loadable t rs → b ≡ tableBytes 64 [] → Filled t 0 b
-filled-none t b rs h e = record { seen = []; ahead = rs; all = h; gives = h .gives; table = e ∙ ap (tableBytes 64) (sym table-none) }
+pub filled-none : (t ps : List ℕ) (b : List ℕ) (rs : List ResourceRecord) → Loadable t ps rs → b ≡ tableBytes 64 [] → Filled t ps (record { at = 0; count = 0; used = 0 }) b
+filled-none t ps b rs h e =
+    record { seen = []; ahead = rs; all = h; gives = h .gives; table = e ∙ ap (tableBytes 64) (sym table-none); counted = refl; named = sym (ap length owners-none) }

@@ -1,3 +1,4 @@
+pub mod SlotLaws
 pub mod FillLaws
 pub mod LoadLaws
 pub mod PlaceLaws

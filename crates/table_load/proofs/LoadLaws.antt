@@ -41,30 +41,30 @@ module _ (t : List ℕ) where
   gives-refused (too-long over) = Checked.too-long over
   gives-refused (faulty {n = n} {p = p} fits f e) = subst (λ (o : ℕ). Checked limit t (refused n o)) (sym (e ∙ zero-add p)) (Checked.faulty fits f)
 
-  module _ (r : Answer) (judged : (rs : List ResourceRecord) (l : Last) → Gives t 0 rs l → Judges rs l r) where
+  module _ (ps : List ℕ) (r : Answer) (judged : (rs : List ResourceRecord) (l : Last) → Gives t 0 rs l → Judges rs l ps r) where
     -- refused: so is the load
     pub loads-refused : (n p : ℕ) → r ≡ the-variants.Refused n p → (area : List ℕ) → Loads limit 64 t area (the-variants.Refused n p) area
     unfolding isAccepted
     loads-refused n p e area = let g = some-giving t 0 in go (g .0) (g .1) (g .2) (judged (g .0) (g .1) (g .2))
       where
-        go : (rs : List ResourceRecord) (l : Last) → Gives t 0 rs l → Judges rs l r → Loads limit 64 t area (the-variants.Refused n p) area
+        go : (rs : List ResourceRecord) (l : Last) → Gives t 0 rs l → Judges rs l ps r → Loads limit 64 t area (the-variants.Refused n p) area
         go rs (refusal m q) g j = Loads.not-read (gives-refused g) (sym e ∙ j) refl
         go rs end g (inl j) = absurd (true≢false (ap isAccepted (sym (j .0) ∙ e)))
         go rs end g (inr (m, j, f)) = Loads.faulty (gives-accepted g) (fault-before (recordTests 64 rs) (areaTests 64 area) m f) (sym e ∙ j) refl
 
     -- accepted: the records make a table
-    pub loadable : (n : ℕ) → r ≡ the-variants.Accepted n → (rs : List ResourceRecord) × Loadable t rs
+    pub loadable : (n : ℕ) → r ≡ the-variants.Accepted n → (rs : List ResourceRecord) × Loadable t ps rs
     unfolding isAccepted
     loadable n e = let g = some-giving t 0 in go (g .0) (g .1) (g .2) (judged (g .0) (g .1) (g .2))
       where
-        go : (rs : List ResourceRecord) (l : Last) → Gives t 0 rs l → Judges rs l r → (rs : List ResourceRecord) × Loadable t rs
+        go : (rs : List ResourceRecord) (l : Last) → Gives t 0 rs l → Judges rs l ps r → (rs : List ResourceRecord) × Loadable t ps rs
         go rs (refusal m q) g j = absurd (true≢false (ap isAccepted (sym e ∙ j)))
-        go rs end g (inl j) = (rs, record { gives = g; single = j .1 .0; room = j .1 .1 .0 })
+        go rs end g (inl j) = (rs, record { gives = g; single = j .1 .0; room = j .1 .1 .0; placed = j .2 })
         go rs end g (inr (m, j, f)) = absurd (true≢false (ap isAccepted (sym e ∙ j)))
 
   -- ---- records that make a table
 
-  module _ (rs : List ResourceRecord) (h : Loadable t rs) where
+  module _ (ps : List ℕ) (rs : List ResourceRecord) (h : Loadable t ps rs) where
     all : AllHold (recordTests 64 rs)
     all = (h .single, (h .room, tt))
 

@@ -22,7 +22,7 @@ use Rattle.slots.specs.declared.Rtype.{Rtype}
 use Rattle.slots.specs.declared.Rtype.the-variants as rtype
 use Rattle.table.specs.Steps.{find}
 use Rattle.records.specs.Promise.{rtypeOf, storedBy, stored}
-use Rattle.table_load.specs.Promise.{numbered, writtenBy, written, Room, Storable}
+use Rattle.table_load.specs.Promise.{numbered, writtenBy, written, AtSlot, Storable}
 
 -- ---- the parts of a place
 
@@ -70,21 +70,21 @@ module _ (p : Record) (r : ResourceRecord) (h : Holds p r) where
 -- ---- their write
 
 -- what a write of them asks for
-pub record Writable (b : List ℕ) (n : List ℕ) (k : Rtype) (x : List ℕ) : Type 0 where
+pub record Writable (b : List ℕ) (used i : ℕ) (n : List ℕ) (k : Rtype) (x : List ℕ) : Type 0 where
   pub low : canonical n ≡ n
   pub short : length n ≤ 255
   pub size : length x ≡ fieldSize k
-  pub room : Room b n
+  pub at : AtSlot b used n i
 
-pub writable : (b : List ℕ) (p : Record) → Storable b p → (k : Rtype) (n : ℕ) → k ≡ numbered (p .rtype) → n ≡ fieldSize k → Writable b (nameIn p) k (take n (p .rdata))
+pub writable : (b : List ℕ) (used i : ℕ) (p : Record) → Storable b used i p → (k : Rtype) (n : ℕ) → k ≡ numbered (p .rtype) → n ≡ fieldSize k → Writable b used i (nameIn p) k (take n (p .rdata))
 unfolding Storable
-writable b p (r, h, room) k n e s =
+writable b used i p (r, h, at) k n e s =
     let own = name-is p r h in
     record {
       low = ap canonical own ∙ h .well-formed .canonical-owner ∙ sym own;
       short = omega (arith, ap length own, proper-short (r .owner) (h .well-formed .proper));
       size = ap length (data-is p r h k n e s) ∙ size-is p r h k e;
-      room = subst (Room b) (sym own) room;
+      at = subst (λ (m : List ℕ). AtSlot b used m i) (sym own) at;
     }
 
 -- and what it comes to: the record is stored

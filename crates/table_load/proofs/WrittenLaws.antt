@@ -1,39 +1,33 @@
 -- One record written into a table, by where its owner stands. Assumes nothing.
-use Prim.Native.Nat.{ℕ}
-use mathlib.Core.Bool.{cond}
+use Prim.Native.Nat.{ℕ, _*_, _≤_, _<_}
+use mathlib.Core.Bool.{Bool, cond}
 use mathlib.Core.Path.{_≡_, sym, ap, _∙_}
 use mathlib.Core.List.{List}
 use mathlib.Core.Option.{Option}
-use native.Mathlib.Omega.{arith}
-use borrow.Author.Tests.{ne-eqb}
+use borrow.Author.Tests.{ne-eqb, lt-ltb, le-ltb}
 use Rattle.name.specs.Name.{canonical}
 use Rattle.slots.specs.Fields.{bare, withField}
-use Rattle.slots.specs.Form.{TableEntry, slotBytes, tableBytes, IsTable}
+use Rattle.slots.specs.Form.{TableEntry, slotSize, slotBytes, tableBytes, IsTable}
 use Rattle.slots.specs.declared.Rtype.{Rtype}
 use Rattle.slots.specs.declared.Rtype.the-variants as rtype
-use Rattle.table.specs.Promise.{placeOf, inSlot}
-use Rattle.table.specs.declared.place.Place.the-variants.{Held, Free, Full}
-use Rattle.table.proofs.StepLaws.{HeldAt, FreeAt, held-at, free-at, full-up}
-use Rattle.table_load.specs.Promise.{numbered, writtenBy, written, Room}
+use Rattle.table.specs.Promise.{inSlot}
+use Rattle.table.specs.declared.place.Place.the-variants.{Held, Free}
+use Rattle.table.proofs.StepLaws.{HeldAt, FreeAt, held-at, free-at}
+use Rattle.table_load.specs.Promise.{numbered, writtenBy, written, AtSlot}
 
 -- a number that is neither A's nor AAAA's
 pub other-type : (n : ℕ) → (n ≡ 1 → ⊥) → (n ≡ 28 → ⊥) → rtype.Dhcid ≡ numbered n
 other-type n f g = sym (λ i. cond (ne-eqb n 1 f i) rtype.A (cond (ne-eqb n 28 g i) rtype.Aaaa rtype.Dhcid))
 
--- the place of a name that is canonical already
-module _ (n : List ℕ) (low : canonical n ≡ n) (t : List TableEntry) (b : List ℕ) (h : IsTable 64 t b) where
-  pub held-there : (at : ℕ) → Held at ≡ placeOf 64 (canonical n) t → HeldAt 64 n t b at
-  held-there at p = held-at 64 n t b h at (p ∙ ap (λ (m : List ℕ). placeOf 64 m t) low)
+-- slot i of a table is the name's, or the first unused one
+module _ (n : List ℕ) (used i : ℕ) (t : List TableEntry) (b : List ℕ) (h : IsTable 64 t b) (at : AtSlot b used n i) where
+  pub held-there : i < used → HeldAt 64 n t b (slotSize * i)
+  unfolding AtSlot
+  held-there lt = held-at 64 n t b h (slotSize * i) (sym (ap (λ (x : Bool). cond x (Held (slotSize * i)) (Free (slotSize * i))) (lt-ltb i used lt)) ∙ at t h)
 
-  pub free-there : (at : ℕ) → Free at ≡ placeOf 64 (canonical n) t → FreeAt 64 n t b at
-  free-there at p = free-at 64 n t b h at (p ∙ ap (λ (m : List ℕ). placeOf 64 m t) low)
-
-  -- a table is not full where there is room
-  pub not-full : Room b n → Full ≡ placeOf 64 (canonical n) t → ⊥
-  unfolding Room
-  not-full room p =
-      let u = full-up 64 n t b h (p ∙ ap (λ (m : List ℕ). placeOf 64 m t) low) in
-      omega (arith, room t h (u .found), u .full)
+  pub free-there : used ≤ i → FreeAt 64 n t b (slotSize * i)
+  unfolding AtSlot
+  free-there le = free-at 64 n t b h (slotSize * i) (sym (ap (λ (x : Bool). cond x (Held (slotSize * i)) (Free (slotSize * i))) (le-ltb i used le)) ∙ at t h)
 
 module _ (n : List ℕ) (k : Rtype) (x : List ℕ) (t : List TableEntry) (b left : List ℕ) where
   -- what is left is the table with the record, where its owner stands and where it is new

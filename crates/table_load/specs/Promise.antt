@@ -1,21 +1,25 @@
 -- What the functions below a load promise one another. Document 01, "The table": loading a listing.
-use Prim.Native.Nat.{ℕ, _≤_, _<_}
+use Prim.Native.Nat.{ℕ, _*_, _≤_}
 use mathlib.Core.Bool.{cond}
 use mathlib.Core.Path.{_≡_}
 use mathlib.Core.List.{List, [], _∷_, _++_}
 use mathlib.Core.Option.{Option, none, some}
-use lib.Dec.{eqb}
+use lib.Dec.{eqb, ltb}
 use lib.ListN.{length}
 use Rattle.grammar.specs.Listing.{ResourceRecord}
 use Rattle.entry.specs.declared.Record.{Record}
 use Rattle.writer.specs.Line.{Holds}
 use Rattle.listing.specs.Giving.{end, Gives}
 use Rattle.slots.specs.Fields.{bare, withField}
-use Rattle.slots.specs.Form.{TableEntry, tableBytes}
+use Rattle.slots.specs.Form.{TableEntry, slotSize, tableBytes}
 use Rattle.slots.specs.Promise.{OfTable}
 use Rattle.slots.specs.declared.Rtype.{Rtype}
 use Rattle.slots.specs.declared.Rtype.the-variants as rtype
 use Rattle.table.specs.Steps.{find, changed}
+use Rattle.table.specs.Promise.{placeOf}
+use Rattle.table.specs.declared.place.Place.the-variants.{Held, Free}
+use Rattle.table_fault.specs.Sweeping.{Placed}
+use Rattle.table_load.specs.declared.Progress.{Progress}
 use Rattle.records.specs.Gathered.{Single, owners, tableOf}
 
 -- ---- one record
@@ -32,26 +36,29 @@ writtenBy (some e) n k x t = changed n (withField k x) t
 unfoldable pub written : List ℕ → Rtype → List ℕ → List TableEntry → List TableEntry
 written n k x t = writtenBy (find n t) n k x t
 
--- a slot is left in the table b for the name n, if it is new
-unfoldable pub Room : List ℕ → List ℕ → Type 0
-Room b n = OfTable 64 b (λ t. find n t ≡ none → length t < 64)
+-- the table b has so many names, and slot i is that of the name n, or the first unused one if it is new
+unfoldable pub AtSlot : List ℕ → ℕ → List ℕ → ℕ → Type 0
+AtSlot b used n i = OfTable 64 b (λ t. cond (ltb i used) (Held (slotSize * i)) (Free (slotSize * i)) ≡ placeOf 64 n t)
 
--- the place p holds a record that can be stored in the table b
-unfoldable pub Storable : List ℕ → Record → Type 0
-Storable b p = (r : ResourceRecord) × Holds p r × Room b (r .owner)
+-- the place p holds a record whose name has slot i of the table b
+unfoldable pub Storable : List ℕ → ℕ → ℕ → Record → Type 0
+Storable b used i p = (r : ResourceRecord) × Holds p r × AtSlot b used (r .owner) i
 
 -- ---- all records
 
--- the records rs of the listing t make a table: no name has two of one type, and there is a slot for each name
-pub record Loadable (t : List ℕ) (rs : List ResourceRecord) : Type 0 where
+-- the records rs of the listing t make a table: no name has two of one type, and there is a slot for each name; ps has the slots in the order of the records
+pub record Loadable (t ps : List ℕ) (rs : List ResourceRecord) : Type 0 where
   pub gives : Gives t 0 rs end
   pub single : Single rs
   pub room : length (owners rs) ≤ 64
+  pub placed : Placed rs ps
 
--- the records of the listing t that stand before the offset at are those of the table b; the others are ahead
-pub record Filled (t : List ℕ) (at : ℕ) (b : List ℕ) : Type 0 where
+-- the records of the listing t that stand before p's offset are those of the table b, with their number and that of their names; the others are ahead
+pub record Filled (t ps : List ℕ) (p : Progress) (b : List ℕ) : Type 0 where
   pub seen : List ResourceRecord
   pub ahead : List ResourceRecord
-  pub all : Loadable t (seen ++ ahead)
-  pub gives : Gives t at ahead end
+  pub all : Loadable t ps (seen ++ ahead)
+  pub gives : Gives t (p .at) ahead end
   pub table : b ≡ tableBytes 64 (tableOf seen)
+  pub counted : p .count ≡ length seen
+  pub named : p .used ≡ length (owners seen)

@@ -2,22 +2,23 @@
 // table is written.
 use base::Answer;
 use base::refusal::OUTPUT_SHORT;
+use entry::Content;
 use entry::Record;
 use entry::TYPE_A;
 use entry::TYPE_AAAA;
-use listing::Found;
-use listing::step_at;
+use entry::read_entry;
 use slot_change::enter_record;
 use slot_change::put_record;
 use slot_row::SIZE;
 use slot_row::make_empty;
 use slots::Rtype;
-use table::place::Place;
-use table::place::place_of;
+use table_fault::RECORDS;
 use table_fault::judge;
+ghost use mathlib.Core.Bool.{cond};
 ghost use mathlib.Core.Path.{_≡_};
 ghost use mathlib.Core.List.{List};
 ghost use Prim.Native.Nat.{_+_, _≤_, _<_};
+ghost use lib.Dec.{ltb};
 ghost use lib.ListN.{length, replicate};
 ghost use Rattle.grammar.specs.Listing.{ResourceRecord};
 ghost use Rattle.listing.specs.Giving.{end, Gives};
@@ -72,23 +73,27 @@ fn enter_at(table: &mut [u8], at: usize, name: &[u8], rtype: Rtype, bytes: &[u8]
     enter_record(&mut table[at..end], name, rtype, bytes);
 }
 
-// A record under its owner, a name in canonical form that has none of that type; where it is new, a slot is left for it.
-fn write_under(table: &mut [u8], name: &[u8], rtype: Rtype, bytes: &[u8])
-    requires { ⌜ (Sound 64 (now table)) × (canonical (now name) ≡ now name) × (length (now name) ≤ 255) × (length (now bytes) ≡ fieldSize rtype) × (spec.Room (now table) (now name)) ⌝ }
+fn wide(b: u8) -> usize
+    ensures { λ r. ⌜ (r ≡ b) × (r ≤ 255) ⌝ }
+{
+    b as usize
+}
+
+// A record under its owner, a name in canonical form that has none of that type, in slot i, which is unused where the name is new.
+fn write_in(table: &mut [u8], i: usize, used: usize, name: &[u8], rtype: Rtype, bytes: &[u8])
+    requires { ⌜ (Sound 64 (now table)) × (i ≤ 255) × (canonical (now name) ≡ now name) × (length (now name) ≤ 255) × (length (now bytes) ≡ fieldSize rtype) × (spec.AtSlot (now table) used (now name) i) ⌝ }
     ensures { λ _. ⌜ OfTable 64 (now (table .entry)) (λ t. now (table .exit) ≡ tableBytes 64 (spec.written (now (name .entry)) rtype (now (bytes .entry)) t)) ⌝ }
 {
-    let place = place_of(table, name);
-    match place {
-        Place::Held(at) => put_at(table, at, rtype, bytes),
-        Place::Free(at) => enter_at(table, at, name, rtype, bytes),
-        // never: a slot is left
-        Place::Full => {}
+    if i < used {
+        put_at(table, slot::SIZE * i, rtype, bytes);
+    } else {
+        enter_at(table, slot::SIZE * i, name, rtype, bytes);
     }
 }
 
-// Stores a record under its owner, which is a new name or has none of that type.
-fn store(table: &mut [u8], place: Record)
-    requires { ⌜ (Sound 64 (now table)) × (spec.Storable (now table) place) ⌝ }
+// Stores a record under its owner, which is a new name or has none of that type, in slot i.
+fn store(table: &mut [u8], i: usize, used: usize, place: Record)
+    requires { ⌜ (Sound 64 (now table)) × (i ≤ 255) × (spec.Storable (now table) used i place) ⌝ }
     ensures { λ _. ⌜ ((r : ResourceRecord) → Holds place r → OfTable 64 (now (table .entry)) (λ t. now (table .exit) ≡ tableBytes 64 (stored r t))) ⌝ }
 {
     let owner: &[u8] = &place.owner;
@@ -97,48 +102,99 @@ fn store(table: &mut [u8], place: Record)
     let bytes: &[u8] = &rdata;
     let rtype = rtype_of(place.rtype);
     let size = data_size(rtype);
-    write_under(table, &owner[..len], rtype, &bytes[..size]);
+    write_in(table, i, used, &owner[..len], rtype, &bytes[..size]);
 }
 
-// Stores the record that stands next from `at` on, if there is one, and answers where to go on.
-fn store_next(table: &mut [u8], text: &[u8], at: usize) -> usize
-    requires { ⌜ spec.Filled (now text) at (now table) ⌝ }
-    ensures { λ next. ⌜ spec.Filled (now (text .entry)) next (now (table .exit)) ⌝ }
-    ensures { λ next. ⌜ (at < length (now (text .entry)) → at < next) ⌝ }
+// How far a table is filled: up to an offset of the listing, with so many records of so many names.
+pub struct Progress {
+    pub at: usize,
+    pub count: usize,
+    pub used: usize,
+}
+
+// How many names there are once slot i is used.
+fn used_with(i: usize, used: usize) -> usize
+    requires { ⌜ i ≤ 255 ⌝ }
+    ensures { λ r. ⌜ r ≡ cond (ltb i used) used (i + 1) ⌝ }
 {
-    let step = step_at(text, at);
-    let record = step.record;
-    let next = step.next;
-    let found = step.found;
-    match found {
-        Found::Record => store(table, record),
-        // the end; a refusal never, since the listing is right
-        _ => {}
+    if i < used {
+        return used;
     }
-    next
+    i + 1
 }
 
-// Makes the table that of the records of a listing, whatever it was.
-fn fill(table: &mut [u8], text: &[u8])
-    requires { ⌜ (length (now table) ≡ 19968) × ((rs : List ResourceRecord) × spec.Loadable (now text) rs) ⌝ }
+// Stores the record of the entry at which it stands, if it has one, and goes on to the next.
+fn store_next(table: &mut [u8], text: &[u8], places: &[u8], from: Progress) -> Progress
+    requires { ⌜ (from .at < length (now text)) × (length (now places) ≡ 192) × (spec.Filled (now text) (now places) from (now table)) ⌝ }
+    ensures { λ p. ⌜ spec.Filled (now (text .entry)) (now (places .entry)) p (now (table .exit)) ⌝ }
+    ensures { λ p. ⌜ from .at < p .at ⌝ }
+{
+    let at = from.at;
+    let count = from.count;
+    let used = from.used;
+    let entry = read_entry(text, at);
+    let record = entry.record;
+    let next = entry.next;
+    let content = entry.content;
+    match content {
+        Content::Record => {
+            let i = wide(places[count]);
+            store(table, i, used, record);
+            Progress {
+                at: next,
+                count: count + 1,
+                used: used_with(i, used),
+            }
+        }
+        Content::Nothing => Progress {
+            at: next,
+            count: count,
+            used: used,
+        },
+        // never, since the listing is right
+        Content::Fault(_) => Progress {
+            at: next,
+            count: count,
+            used: used,
+        },
+    }
+}
+
+// Makes the table that of the records of a listing, whatever it was. Each goes into the slot that `places` has for it.
+fn fill(table: &mut [u8], text: &[u8], places: &[u8])
+    requires { ⌜ (length (now table) ≡ 19968) × (length (now places) ≡ 192) × ((rs : List ResourceRecord) × spec.Loadable (now text) (now places) rs) ⌝ }
     ensures { λ _. ⌜ ((rs : List ResourceRecord) → Gives (now (text .entry)) 0 rs end → now (table .exit) ≡ tableBytes 64 (tableOf rs)) ⌝ }
 {
     make_empty(table);
     let mut at: usize = 0;
+    let mut count: usize = 0;
+    let mut used: usize = 0;
     while at < text.len() {
-        at = store_next(table, text, at);
+        let on = store_next(
+            table,
+            text,
+            places,
+            Progress {
+                at: at,
+                count: count,
+                used: used,
+            },
+        );
+        at = on.at;
+        count = on.count;
+        used = on.used;
     }
 }
 
 // Loads a listing whose records make a table.
-fn load_right(table: &mut [u8], text: &[u8]) -> Answer
-    requires { ⌜ ((rs : List ResourceRecord) × spec.Loadable (now text) rs) ⌝ }
+fn load_right(table: &mut [u8], text: &[u8], places: &[u8]) -> Answer
+    requires { ⌜ (length (now places) ≡ 192) × ((rs : List ResourceRecord) × spec.Loadable (now text) (now places) rs) ⌝ }
     ensures { λ r. ⌜ Loads 65536 64 (now (text .entry)) (now (table .entry)) r (now (table .exit)) ⌝ }
 {
     if table.len() < SIZE {
         return Answer::refused(OUTPUT_SHORT);
     }
-    fill(&mut table[..SIZE], text);
+    fill(&mut table[..SIZE], text, places);
     Answer::Accepted(0)
 }
 
@@ -147,11 +203,12 @@ fn load_right(table: &mut [u8], text: &[u8]) -> Answer
 pub fn load(table: &mut [u8], text: &[u8]) -> Answer
     ensures { λ r. ⌜ Loads 65536 64 (now (text .entry)) (now (table .entry)) r (now (table .exit)) ⌝ }
 {
-    match judge(text) {
+    let mut places = [0u8; RECORDS];
+    match judge(text, &mut places) {
         Answer::Refused { number, offset } => Answer::Refused {
             number: number,
             offset: offset,
         },
-        Answer::Accepted(_) => load_right(table, text),
+        Answer::Accepted(_) => load_right(table, text, &places),
     }
 }

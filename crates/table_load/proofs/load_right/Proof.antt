@@ -9,7 +9,7 @@ refused-requires : tie.Need-refused-requires
 refused-requires c κs = search needs
 
 returns : tie.Need-returns
-returns c = let p = c .before .before .before .before .pre in loads-short _ (p .0) (p .1) _ _ (omega arith) (c .refused .ensures)
+returns c = let p = c .before .before .before .before .before .pre .1 in loads-short _ _ (p .0) (p .1) _ _ (omega arith) (c .refused .ensures)
 
 slice-relend-prefix-fill : tie.Need-slice-relend-prefix-fill
 slice-relend-prefix-fill c = search needs
@@ -18,15 +18,15 @@ slice-aggregate-fill : tie.Need-slice-aggregate-fill
 slice-aggregate-fill c = simp length-take (omega arith)
 
 fill-requires : tie.Need-fill-requires
-fill-requires c κs = (simp length-take (omega arith), c .before .before .before .before .pre)
+fill-requires c κs = (simp length-take (omega arith), c .before .before .before .before .before .pre .0, c .before .before .before .before .before .pre .1)
 
 same-length : tie.Need-same-length
 same-length c = search needs
 
 returns-2 : tie.Need-returns-2
 returns-2 c =
-    let p = c .before .before .before .before .before .before .before .pre in
-    loads-all _ (p .0) (p .1) _ _ (omega arith) (c .before .before .fill .ensures (p .0) (p .1 .gives))
+    let p = c .before .before .before .before .before .before .before .before .pre .1 in
+    loads-all _ _ (p .0) (p .1) _ _ (omega arith) (c .before .before .fill .ensures (p .0) (p .1 .gives))
 
 pub load-right-spec : {M : Type 1} → statement M
 load-right-spec =

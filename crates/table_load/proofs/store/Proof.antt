@@ -19,23 +19,23 @@ rtype-of-requires c κs = search needs
 data-size-requires : tie.Need-data-size-requires
 data-size-requires c κs = search needs
 
-slice-aggregate-write-under : tie.Need-slice-aggregate-write-under
-slice-aggregate-write-under c =
-    let owner : length (c .before .before .before .before .before .before .before .before .before .before .args .t2 .owner) ≡ 255 = search needs in
+slice-aggregate-write-in : tie.Need-slice-aggregate-write-in
+slice-aggregate-write-in c =
+    let owner : length (c .before .before .before .before .before .before .before .before .before .before .args .t4 .owner) ≡ 255 = search needs in
     simp length-take (omega arith)
 
-slice-aggregate-write-under-2 : tie.Need-slice-aggregate-write-under-2
-slice-aggregate-write-under-2 c =
+slice-aggregate-write-in-2 : tie.Need-slice-aggregate-write-in-2
+slice-aggregate-write-in-2 c =
     let d = c .before .before .before in
-    let rdata : length (d .before .before .before .before .before .before .before .before .args .t2 .rdata) ≡ 35 = search needs in
+    let rdata : length (c .before .before .before .before .before .before .before .before .before .before .before .args .t4 .rdata) ≡ 35 = search needs in
     simp length-take (omega (arith, d .data-size .ensures, size-fits (d .before .rtype-of .result)))
 
-write-under-requires : tie.Need-write-under-requires
-write-under-requires c κs =
+write-in-requires : tie.Need-write-in-requires
+write-in-requires c κs =
     let d = c .before .before .before in
-    let a = d .before .before .before .before .before .before .before .before in
-    let w = writable _ (a .args .t2) (a .pre .1) _ _ (d .before .rtype-of .ensures) (d .data-size .ensures) in
-    (a .pre .0, w .low, w .short, w .size, w .room)
+    let a = c .before .before .before .before .before .before .before .before .before .before .before in
+    let w = writable _ _ _ (a .args .t4) (a .pre .2) _ _ (d .before .rtype-of .ensures) (d .data-size .ensures) in
+    (a .pre .0, a .pre .1, w .low, w .short, w .size, w .at)
 
 same-length : tie.Need-same-length
 same-length c = search needs
@@ -43,9 +43,9 @@ same-length c = search needs
 returns : tie.Need-returns
 returns c = λ r h t is.
     let w = c .before .before in
-    let d = w .before .before .before .before in
-    let a = d .before .before .before .before .before .before .before .before in
-    w .write-under .ensures t is ∙ ap (tableBytes 64) (written-stored (a .args .t2) r h _ _ (d .before .rtype-of .ensures) (d .data-size .ensures) t)
+    let d = c .before .before .before .before .before .before in
+    let a = c .before .before .before .before .before .before .before .before .before .before .before .before .before .before in
+    w .write-in .ensures t is ∙ ap (tableBytes 64) (written-stored (a .args .t4) r h _ _ (d .before .rtype-of .ensures) (d .data-size .ensures) t)
 
 pub store-spec : {M : Type 1} → statement M
 store-spec =
@@ -55,8 +55,8 @@ store-spec =
     slice-aggregate-bytes
     rtype-of-requires
     data-size-requires
-    slice-aggregate-write-under
-    slice-aggregate-write-under-2
-    write-under-requires
+    slice-aggregate-write-in
+    slice-aggregate-write-in-2
+    write-in-requires
     same-length
     returns)

@@ -1,41 +1,86 @@
+use native.Mathlib.Omega.{arith}
 use borrow.Author.Needs.{needs}
-use Rattle.table_load.proofs.FillLaws.{filled-sound, next-of, next-holds, next-storable, filled-more, filled-still, still-on}
+use Rattle.table_load.proofs.FillLaws.{filled-sound, next-of, place-within, next-holds, next-storable, filled-more, filled-still, no-fault}
 use Rattle.table_load.proofs.store_next.Statement.{statement}
 use Rattle.table_load.proofs.store_next.Tie as tie
 
-step-at-requires : tie.Need-step-at-requires
-step-at-requires c κs = search needs
+read-entry-requires : tie.Need-read-entry-requires
+read-entry-requires c κs = let a = c .before .before .before in omega (arith, a .pre .0)
 
 enum-told : tie.Need-enum-told
 enum-told c = search needs
 
+shared-slice-read-wide : tie.Need-shared-slice-read-wide
+shared-slice-read-wide c =
+    let a = c .before .before .before .before .before .before .before .before in
+    let e = c .before .before .before .before .read-entry in
+    let n = next-of _ _ _ _ (a .pre .2) (e .result) (e .ensures) (a .pre .0) (c .before .enum-told .given .1) in
+    omega (arith, place-within _ _ _ _ (a .pre .2) (e .result) (e .ensures) (a .pre .0) n, a .pre .1)
+
+wide-requires : tie.Need-wide-requires
+wide-requires c κs = search needs
+
 store-requires : tie.Need-store-requires
 store-requires c κs =
-    let s = c .before .before .before .before in
-    let a = s .before .before .before in
-    let n = next-of _ _ _ (a .pre) (s .step-at .result) (s .step-at .ensures) (c .before .enum-told .given .1) in
-    (filled-sound _ _ _ (a .pre), next-storable _ _ _ (a .pre) (s .step-at .result) (s .step-at .ensures) n)
+    let a = c .before .before .before .before .before .before .before .before .before .before in
+    let e = c .before .before .before .before .before .before .read-entry in
+    let n = next-of _ _ _ _ (a .pre .2) (e .result) (e .ensures) (a .pre .0) (c .before .before .before .enum-told .given .1) in
+    let i = c .before .wide in
+    (filled-sound _ _ _ _ (a .pre .2), i .ensures .1, next-storable _ _ _ _ (a .pre .2) (e .result) (e .ensures) (a .pre .0) n (i .result) (i .ensures .0))
+
+add-t19 : tie.Need-add-t19
+add-t19 c =
+    let a = c .before .before .before .before .before .before .before .before .before .before .before .before .before in
+    let e = c .before .before .before .before .before .before .before .before .before .read-entry in
+    let n = next-of _ _ _ _ (a .pre .2) (e .result) (e .ensures) (a .pre .0) (c .before .before .before .before .before .before .enum-told .given .1) in
+    omega (arith, place-within _ _ _ _ (a .pre .2) (e .result) (e .ensures) (a .pre .0) n)
+
+used-with-requires : tie.Need-used-with-requires
+used-with-requires c κs = c .before .before .before .before .wide .ensures .1
+
+enum-told-2 : tie.Need-enum-told-2
+enum-told-2 c = search needs
+
+enum-told-3 : tie.Need-enum-told-3
+enum-told-3 c = search needs
 
 same-length : tie.Need-same-length
 same-length c = search needs
 
 returns : tie.Need-returns
 returns c =
-    let p = c .before .before in
-    let s = p .before .before .before .before .before in
-    let a = s .before .before .before in
-    let n = next-of _ _ _ (a .pre) (s .step-at .result) (s .step-at .ensures) (p .before .before .enum-told .given .1) in
-    let holds = next-holds _ _ _ (a .pre) (s .step-at .result) (s .step-at .ensures) n in
-    (filled-more _ _ _ (a .pre) (s .step-at .result) (s .step-at .ensures) n _ (p .store .ensures (n .head) holds), λ more. n .on)
+    let a = c .before .before .before .before .before .before .before .before .before .before .before .before .before .before in
+    let e = c .before .before .before .before .before .before .before .before .before .before .read-entry in
+    let n = next-of _ _ _ _ (a .pre .2) (e .result) (e .ensures) (a .pre .0) (c .before .before .before .before .before .before .before .enum-told .given .1) in
+    let i = c .before .before .before .before .before .wide in
+    (filled-more _ _ _ _ (a .pre .2) (e .result) (e .ensures) (a .pre .0) n (i .result) (i .ensures .0) _ (c .before .before .before .store .ensures (n .head) (next-holds _ _ _ _ (a .pre .2) (e .result) (e .ensures) (a .pre .0) n)) _ (c .used-with .ensures), e .ensures .on (a .pre .0))
 
 returns-2 : tie.Need-returns-2
 returns-2 c =
-    let s = c .before .before in
-    let a = s .before .before .before in (
-      filled-still _ _ _ (a .pre) (s .step-at .result) (s .step-at .ensures) (c .match .keys2),
-      still-on _ _ _ (a .pre) (s .step-at .result) (s .step-at .ensures) (c .match .keys2),
-    )
+    let a = c .before .before .before .before .before .before .before in
+    let e = c .before .before .before .read-entry in
+    (filled-still _ _ _ _ (a .pre .2) (e .result) (e .ensures) (a .pre .0) (c .enum-told2 .given .1), e .ensures .on (a .pre .0))
+
+returns-3 : tie.Need-returns-3
+returns-3 c =
+    let a = c .before .before .before .before .before .before .before in
+    let e = c .before .before .before .read-entry in
+    absurd (no-fault _ _ _ _ (a .pre .2) (e .result) (e .ensures) (a .pre .0) _ (c .enum-told3 .given .1))
 
 pub store-next-spec : {M : Type 1} → statement M
 store-next-spec =
-    tie.close (tie.spec step-at-requires enum-told store-requires same-length returns returns-2)
+    tie.close
+    (tie.spec
+    read-entry-requires
+    enum-told
+    shared-slice-read-wide
+    wide-requires
+    store-requires
+    add-t19
+    used-with-requires
+    enum-told-2
+    enum-told-3
+    same-length
+    returns
+    returns-2
+    returns-3)

@@ -1,0 +1,39 @@
+use mathlib.Core.Path.{refl, sym}
+use native.Mathlib.Omega.{arith}
+use lib.Seq.{set-out}
+use borrow.Author.Needs.{needs}
+use Rattle.table_fault.proofs.note.Statement.{statement}
+use Rattle.table_fault.proofs.note.Tie as tie
+
+cast-places : tie.Need-cast-places
+cast-places c = search needs
+
+slice-write-places : tie.Need-slice-write-places
+slice-write-places c = search needs
+
+add-result : tie.Need-add-result
+add-result c = search needs
+
+same-length : tie.Need-same-length
+same-length c = search needs
+
+returns : tie.Need-returns
+returns c = search needs
+
+add-result-2 : tie.Need-add-result-2
+add-result-2 c = search needs
+
+returns-2 : tie.Need-returns-2
+returns-2 c = (refl, sym (set-out _ _ _ (c .if1 .left)))
+
+pub note-spec : {M : Type 1} → statement M
+note-spec =
+    tie.close
+    (tie.spec
+    cast-places
+    slice-write-places
+    add-result
+    same-length
+    returns
+    add-result-2
+    returns-2)
