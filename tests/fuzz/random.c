@@ -79,7 +79,7 @@ static char label_byte(void) { return "abcdefghijklmnopqrstuvwxyzABCDEFGHIJKLMNO
 static void put_name(void)
 {
     int is_long = one_in(8);
-    uint32_t labels = is_long ? 4 : 1 + chance(4);
+    uint32_t labels = one_in(60) ? 0 : is_long ? 4 : 1 + chance(4);
     for (uint32_t i = 0; i < labels; i++) {
         uint32_t label = is_long ? (i < 3 ? 63 : 60 + chance(4)) : 1 + chance(one_in(4) ? 64 : 12);
         put((uint8_t)label);
@@ -223,14 +223,21 @@ static void make_message(void)
     size_t site = len;
     if (!one_in(30))
         put_name();
-    if (len - site > 255)
-        len = site + 255;
-    set_length(site, 1);
+    size_t site_len = len - site, more = site_len > 255 ? 16 : 0;
+    input[0] |= (uint8_t)more;
+    input[site - 1] = (uint8_t)(site_len - more);
     size_t message = len;
     if (is6)
         put_v6(one_in(2) ? 0 : chance(11));
     else
         put_v4();
+    if (one_in(12)) { /* in DHCPv4 it is behind End */
+        memcpy(input + len, input + site, site_len);
+        len += site_len;
+    }
+    if (one_in(60))
+        for (size_t most = VICHRELKA_MESSAGE_LIMIT - 1 + chance(3); len - message < most;)
+            put((uint8_t)chance(256));
     damage(one_in(16) ? 0 : is6 || one_in(8) ? message : message + 240);
 }
 
@@ -346,13 +353,20 @@ static void make_listing(void)
 {
     put((uint8_t)(one_in(16) ? chance(3) : 15));
     size_t text = len;
-    uint32_t records = one_in(64) ? 60 + chance(80) : chance(12), owners = one_in(2) ? 100000 : 1 + 4 * records;
+    uint32_t records = one_in(64) ? 60 + chance(one_in(8) ? 240 : 40) : chance(12), owners = one_in(2) ? 100000 : 1 + 4 * records;
     for (uint32_t i = 0; i < records; i++) {
+        size_t record = len;
         put_record(owners);
+        if (records < 20 && one_in(40)) { /* once more, byte for byte */
+            size_t record_len = len - record;
+            put('\n');
+            memcpy(input + len, input + record, record_len);
+            len += record_len;
+        }
         put_text(ONE_OF("\n", "\n", " ;a comment\n", "\n\n", ";\n  \n", "\t\n"));
     }
     damage(one_in(3) ? text : len);
-    if (one_in(2000))
+    if (one_in(500))
         for (size_t most = VICHRELKA_LISTING_LIMIT + chance(2); len - text < most;)
             put('\n');
 }
@@ -399,14 +413,24 @@ static void put_two(uint32_t number)
 /* The table is damaged: its length, or a byte, mostly one that says something */
 static void put_damage(void)
 {
+    static const uint16_t FIELDS[] = {0, 1, 2, 3, 4, 255, 256, 257, 258, 259, 260, 261, 268, 276, 277, 278, 279, 311};
+    enum { COUNT = sizeof FIELDS / sizeof FIELDS[0] };
     if (one_in(8)) {
         put(LENGTH);
-        put_two(one_in(2) ? VICHRELKA_TABLE_LEN - 2 + chance(5) : chance(20481));
+        put_two(one_in(3) ? VICHRELKA_TABLE_LEN - 2 + chance(5) : one_in(2) ? VICHRELKA_SLOT_LEN * chance(66) : chance(20481));
         return;
     }
-    uint32_t slot = VICHRELKA_SLOT_LEN * chance(one_in(2) ? 4 : 64);
+    uint32_t slot = VICHRELKA_SLOT_LEN * (one_in(8) ? 63 : chance(one_in(2) ? 4 : 64));
     put(PUT);
-    put_two(slot + (one_in(2) ? chance(VICHRELKA_SLOT_LEN) : one_in(2) ? VICHRELKA_SLOT_FLAGS + chance(24) : chance(8)));
+    if (one_in(8)) { /* the root's name, over one of a letter */
+        put_two(slot);
+        put(3);
+        put(1);
+        put(0);
+        put(0);
+        return;
+    }
+    put_two(slot + (one_in(3) ? chance(VICHRELKA_SLOT_LEN) : FIELDS[chance(COUNT)]));
     put(1);
     put((uint8_t)chance(one_in(2) ? 8 : 256));
 }
@@ -437,7 +461,30 @@ static void put_call(uint32_t step)
         return;
     }
     int is_holder = one_in(2), is_held = one_in(2);
-    put((uint8_t)(is_holder | chance(2) << 2 | (is_held ? 8 : 0)));
+    uint8_t family = (uint8_t)(chance(2) << 2);
+    if (one_in(16)) { /* a DHCID as that of the slot in a table that was filled, but for its last byte, or of another length */
+        uint32_t dhcid_len = one_in(2) ? VICHRELKA_DHCID_LEN : VICHRELKA_DHCID_LEN - 1 + chance(3);
+        put(2 | 64 | family);
+        put((uint8_t)dhcid_len);
+        put(0);
+        put(0);
+        put(1);
+        memset(input + len, which, dhcid_len - 3);
+        len += dhcid_len - 3;
+        input[len - 1] ^= (uint8_t)chance(2);
+        put((uint8_t)chance(256));
+        return;
+    }
+    if (one_in(16)) { /* an address of some length */
+        static const uint8_t LENGTHS[] = {0, 3, 4, 5, 15, 16, 17};
+        uint8_t address_len = LENGTHS[chance(sizeof LENGTHS)];
+        put((uint8_t)(is_holder | family | 16 | 32));
+        put(is_holder ? which : small_dhcid());
+        put(address_len);
+        put_random(address_len);
+        return;
+    }
+    put((uint8_t)(is_holder | family | (is_held ? 8 : 0)));
     put(is_holder ? which : small_dhcid());
     if (!is_held)
         put((uint8_t)chance(256));
@@ -448,7 +495,7 @@ static void make_table(void)
     put_start();
     for (uint32_t steps = 1 + chance(8); steps > 0; steps--) {
         uint32_t step = FIRST_CALL + chance(STEPS - FIRST_CALL);
-        if (one_in(40))
+        if (one_in(24))
             put_damage();
         if (step <= CLEAR_CALL) {
             put_call(step);
