@@ -1,7 +1,7 @@
 -- What an entry is, with where its name stands among those that are kept. Assumes nothing.
 use Prim.Native.Nat.{ℕ, _≤_, _<_}
 use mathlib.Core.Bool.{true, false, true≢false, false≢true}
-use mathlib.Core.Path.{_≡_, refl, sym, ap, subst, _∙_}
+use mathlib.Core.Path.{_≡_, sym, ap, subst, _∙_}
 use mathlib.Core.List.{List}
 use lib.ListN.{length, take, drop}
 use Rattle.base.specs.Logic.{Every}
@@ -15,9 +15,9 @@ use Rattle.writer.specs.Line.{WellFormed}
 use Rattle.writer.proofs.PlaceLaws.{owner-held}
 use Rattle.writer.proofs.Theorems.{spelled-well-formed}
 use Rattle.listing.specs.Reading.{limit}
-use Rattle.listing.specs.Giving.{Last, end, Gives, whole}
+use Rattle.listing.specs.Giving.{end, Gives, whole}
 use Rattle.listing.proofs.Theorems.{some-giving}
-use Rattle.table_fault.specs.Sweeping.{mark, typeBit, IndexOf, Met, SeenIs}
+use Rattle.table_fault.specs.Sweeping.{mark, typeBit, IndexOf, SeenIs}
 use Rattle.table_fault.proofs.WordLaws.{owner-proper}
 use Rattle.table_fault.proofs.GivenLaws.{fault-given, nothing-given, record-given}
 

@@ -1,27 +1,27 @@
 -- The owner in text: it is the word with which a record's entry begins, and it tells names apart. Assumes nothing.
-use Prim.Native.Nat.{ℕ, zero, suc, _+_, _-_, _≤_, _<_}
+use Prim.Native.Nat.{ℕ, _+_, _-_, _≤_}
 use mathlib.Core.Bool.{Bool, true, false, false≢true}
 use mathlib.Core.Path.{_≡_, refl, sym, ap, ap₂, subst, _∙_}
-use mathlib.Core.List.{List, [], _∷_, _++_, map, head-eq-of-cons-eq, tail-eq-of-cons-eq}
+use mathlib.Core.List.{List, [], _∷_, _++_, map}
 use mathlib.Core.Option.{Option, none, some, Option·some-injective, Option·some-ne-none}
 use native.Mathlib.Omega.{arith}
-use lib.ListN.{length, take, drop, getD, length-append, length-drop}
+use lib.ListN.{length, take, drop, length-append, length-drop}
 use lib.Seq.{take-at}
 use Rattle.base.specs.Logic.{Decides}
 use Rattle.base.proofs.Lists.{map-append}
 use Rattle.base.proofs.Tests.{decides-as}
 use Rattle.name.specs.Label.{isUpper, lower}
-use Rattle.name.specs.Name.{wire, text, Name, Proper, canonical}
+use Rattle.name.specs.Name.{wire, text, Proper, canonical}
 use Rattle.name.specs.Promise.{textOf}
 use Rattle.name.proofs.DottedLaws.{textOf-wire}
 use Rattle.name.proofs.NameLaws.{length-text, lowered, canonical-wire, length-canonical, name-lowered}
-use Rattle.name.proofs.Theorems.{canonical-form, spelled, one-name}
+use Rattle.name.proofs.Theorems.{spelled, one-name}
 use Rattle.name.specs.Name
 use Rattle.grammar.specs.Listing.{Kind, blank, lineEnd, opening, closing, semicolon, wordByte, notAllowed, kindOf, isWordKind, isWordByte, begins, Depth, outside, ResourceRecord, Owner}
-use Rattle.grammar.proofs.Scan.{plain, Ending, atEnd, atLine, atFault, Laid, put, letter, addLetter, scan}
+use Rattle.grammar.proofs.Scan.{plain, Ending, atEnd, atLine, atFault, Laid, addLetter, scan}
 use Rattle.grammar.proofs.ScanLaws.{byte-scan}
 use Rattle.grammar.proofs.OwnerReader.{ownerOf, owner-reads}
-use Rattle.grammar.proofs.Content.{Content, one, fault, Headed, headOf, rdataOf, byRdata, byHead, byOwner, contentOf}
+use Rattle.grammar.proofs.Content.{Content, one, fault, Headed, headOf, rdataOf, byRdata, byOwner, contentOf}
 use Rattle.grammar.proofs.Reader.{Verdict, right, wrong, after, shifted, byEnding, read}
 use Rattle.grammar.proofs.ReaderLaws.{read-step}
 use Rattle.table_fault.specs.Sweeping.{BeginsWith}

@@ -79,7 +79,7 @@ fn type_bit(rtype: u8) -> u8
     }
 }
 
-fn wide(b: u8) -> usize
+pub fn wide(b: u8) -> usize
     ensures { λ r. ⌜ (r ≡ b) × (r ≤ 255) ⌝ }
 {
     b as usize

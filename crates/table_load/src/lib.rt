@@ -14,6 +14,7 @@ use slot_row::make_empty;
 use slots::Rtype;
 use table_fault::RECORDS;
 use table_fault::judge;
+use table_fault::wide;
 ghost use mathlib.Core.Bool.{cond};
 ghost use mathlib.Core.Path.{_≡_};
 ghost use mathlib.Core.List.{List};
@@ -71,12 +72,6 @@ fn enter_at(table: &mut [u8], at: usize, name: &[u8], rtype: Rtype, bytes: &[u8]
 {
     let end = at + slot::SIZE;
     enter_record(&mut table[at..end], name, rtype, bytes);
-}
-
-fn wide(b: u8) -> usize
-    ensures { λ r. ⌜ (r ≡ b) × (r ≤ 255) ⌝ }
-{
-    b as usize
 }
 
 // A record under its owner, a name in canonical form that has none of that type, in slot i, which is unused where the name is new.

@@ -1,8 +1,6 @@
 use Prim.Native.Nat.{_+_, _-_}
 use native.Mathlib.Omega.{arith}
-use mathlib.Core.List.{List}
 use lib.ListN.{length, drop, length-take, length-drop}
-use borrow.Author.Needs.{needs}
 use Rattle.name.proofs.WireLaws.{proper-some}
 use Rattle.table_fault.proofs.WordLaws.{owner-decided}
 use Rattle.table_fault.proofs.is_owner.Statement.{statement}
