@@ -353,11 +353,11 @@ static void make_listing(void)
 {
     put((uint8_t)(one_in(16) ? chance(3) : 15));
     size_t text = len;
-    uint32_t records = one_in(64) ? 60 + chance(one_in(8) ? 240 : 40) : chance(12), owners = one_in(2) ? 100000 : 1 + 4 * records;
+    uint32_t records = one_in(24) ? 60 + chance(one_in(8) ? 240 : 40) : chance(12), owners = one_in(4) ? 1 + 4 * records : 100000;
     for (uint32_t i = 0; i < records; i++) {
         size_t record = len;
         put_record(owners);
-        if (records < 20 && one_in(40)) { /* once more, byte for byte */
+        if (one_in(records < 20 ? 40 : 400)) { /* once more, byte for byte */
             size_t record_len = len - record;
             put('\n');
             memcpy(input + len, input + record, record_len);
@@ -365,6 +365,9 @@ static void make_listing(void)
         }
         put_text(ONE_OF("\n", "\n", " ;a comment\n", "\n\n", ";\n  \n", "\t\n"));
     }
+    /* the last entry is where a parenthesis may stay open */
+    if (one_in(100))
+        put_text(ONE_OF("(", " ( ;)", "a. A 1.2.3.4 (", "a. A 1.2.3.4\r\n"));
     damage(one_in(3) ? text : len);
     if (one_in(500))
         for (size_t most = VICHRELKA_LISTING_LIMIT + chance(2); len - text < most;)
