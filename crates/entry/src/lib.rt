@@ -6,7 +6,7 @@ use base::refusal::ENTRY_DATA;
 use base::refusal::ENTRY_OWNER;
 use base::refusal::ENTRY_SHAPE;
 use base::refusal::ENTRY_TYPE;
-use name::text::from_text;
+use name_text::from_text;
 use words::Next;
 use words::is_word_byte;
 use words::next_word;

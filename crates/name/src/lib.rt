@@ -1,7 +1,6 @@
-// Domain names, in wire form (RFC 1035, section 3.1) and in text. A proper name is one or more labels of letters, digits, hyphens and
+// Domain names in wire form (RFC 1035, section 3.1). A proper name is one or more labels of letters, digits, hyphens and
 // underscores, at most 255 bytes in wire form.
 pub mod byte;
-pub mod text;
 pub mod wire;
 
 // A name in canonical wire form, by value: 256 bytes.

@@ -14,10 +14,10 @@ ghost use Rattle.name.specs.Strays as count;
 pub const LONGEST: usize = 255;
 
 // The longest label, in bytes.
-pub(crate) const LONGEST_LABEL: u8 = 63;
+pub const LONGEST_LABEL: u8 = 63;
 
 // How many bytes are looked at at a turn, where that can be done.
-pub(crate) const CHUNK: usize = 16;
+pub const CHUNK: usize = 16;
 
 // Is this a proper name and nothing after it? Each byte is looked at once.
 pub fn is_proper(name: &[u8]) -> bool
@@ -57,7 +57,7 @@ pub fn is_proper(name: &[u8]) -> bool
 }
 
 // How many bytes no label in canonical form has: with no way out before the last, so that many are taken at a turn.
-pub(crate) fn strays(name: &[u8]) -> u8
+pub fn strays(name: &[u8]) -> u8
     requires { ⌜ length (now name) ≤ 255 ⌝ }
     ensures { λ r. ⌜ r ≡ count.strays (now (name .entry)) ⌝ }
 {

@@ -3,11 +3,11 @@
 // no name: an escape, a star, a missing dot, an empty label. A text is followed by its canonical wire form, wire bytes by their text.
 use harness::print;
 use harness::print_hex;
-use name::text::from_text;
-use name::text::put_text;
 use name::wire::canonical;
 use name::wire::is_proper;
 use name::wire::matches;
+use name_text::from_text;
+use name_text::put_text;
 ghost use Prim.Native.Nat.{_≤_};
 ghost use lib.ListN.{length};
 

@@ -51,7 +51,7 @@ fn name_at(table: &[u8], i: usize) -> &[u8]
 }
 
 // The index of the slot that has this name, which may be in any case; of the first unused slot, if none has it, or the number of slots, if all are used.
-// Bytes are compared only with names of the same length, and only up to the first that differs.
+// Bytes are compared only with names of the same length, and only up to the first chunk that differs.
 pub fn find(table: &[u8], name: &[u8]) -> usize
     requires { ⌜ Entries 64 (now table) ⌝ }
     ensures { λ r. ⌜ OfTable 64 (now (table .entry)) (λ t. r ≡ position (canonical (now (name .entry))) t) ⌝ }

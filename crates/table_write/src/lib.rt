@@ -5,7 +5,7 @@ use base::refusal::TABLE_NOT_SOUND;
 use entry::TYPE_A;
 use entry::TYPE_AAAA;
 use entry::TYPE_DHCID;
-use name::text::put_text;
+use name_text::put_text;
 use slot_row::SLOTS;
 use slot_row::is_sound;
 use slots::Rtype;

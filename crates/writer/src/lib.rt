@@ -9,7 +9,7 @@ use dhcid_text::put_base64;
 use entry::Record;
 use entry::TYPE_A;
 use entry::TYPE_AAAA;
-use name::text::put_text;
+use name_text::put_text;
 ghost use mathlib.Core.Path.{_≡_};
 ghost use Prim.Native.Nat.{_+_, _≤_};
 ghost use lib.ListN.{length};

@@ -2,9 +2,9 @@ use Prim.Native.Nat.{_-_}
 use denote.Ref.{now}
 use native.Mathlib.Omega.{arith}
 use lib.ListN.{length}
 use Rattle.name.proofs.LeadLaws.{Passing, passing-byte, passing-dot, lead-within}
-use Rattle.name.proofs.text.next_dot.Statement.{statement}
-use Rattle.name.proofs.text.next_dot.Tie as tie
+use Rattle.name_text.proofs.next_dot.Statement.{statement}
+use Rattle.name_text.proofs.next_dot.Tie as tie
 
 abbrev Inv-loop : tie.InvT-loop
 Inv-loop word at i₀ i = Passing word at i

@@ -1,17 +1,17 @@
 // Names in text: each label followed by a dot.
-use crate::WireName;
-use crate::wire::CHUNK;
-use crate::wire::LONGEST_LABEL;
-use crate::wire::put_canonical;
-use crate::wire::strays;
 use base::slice::put;
+use name::WireName;
+use name::wire::CHUNK;
+use name::wire::LONGEST_LABEL;
+use name::wire::put_canonical;
+use name::wire::strays;
 ghost use mathlib.Core.Path.{_≡_};
 ghost use mathlib.Core.Logic.{_⊎_};
 ghost use Prim.Native.Nat.{_+_, _-_, _≤_, _<_};
 ghost use lib.ListN.{length, getD, drop};
 ghost use Rattle.base.specs.Bytes.{overlay};
 ghost use Rattle.base.specs.Logic.{Decides};
 ghost use Rattle.name.specs.Promise as spec;
 
 // The longest name in text: one byte less than in wire form.
 const LONGEST_TEXT: usize = 254;

@@ -2,9 +2,9 @@ use Prim.Native.Nat.{_-_}
 use native.Mathlib.Omega.{arith}
 use borrow.Author.Tests.{not-false}
 use lib.ListN.{length}
 use Rattle.name.proofs.LeadLaws.{Passing, passing-none, passing-more}
-use Rattle.name.proofs.text.pass_chunks.Statement.{statement}
-use Rattle.name.proofs.text.pass_chunks.Tie as tie
+use Rattle.name_text.proofs.pass_chunks.Statement.{statement}
+use Rattle.name_text.proofs.pass_chunks.Tie as tie
 
 abbrev Inv-loop : tie.InvT-loop
 Inv-loop word at i₀ i = Passing word at i

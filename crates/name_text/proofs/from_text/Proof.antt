@@ -5,11 +5,11 @@ use denote.Ref.{now}
 use native.Mathlib.Omega.{arith}
 use borrow.Author.Needs.{needs}
 use lib.ListN.{length}
 use Rattle.name.specs.Strays.{strays}
 use Rattle.name.proofs.LeadLaws.{lead-within}
 use Rattle.name.proofs.ReadingLaws.{Reading, refused, invalid, no-bytes, too-long, no-last-dot, taken-over, word-in, reading-none, empty-label, long-label, some-left-over, reading-more, strays-over, reading-all}
-use Rattle.name.proofs.text.from_text.Statement.{statement}
-use Rattle.name.proofs.text.from_text.Tie as tie
+use Rattle.name_text.proofs.from_text.Statement.{statement}
+use Rattle.name_text.proofs.from_text.Tie as tie
 
 abbrev Inv-loop : tie.InvT-loop
 Inv-loop word n bytes₀ left₀ i₀ bytes left i = Reading word bytes left i

@@ -3,10 +3,10 @@ use mathlib.Core.Path.{_∙_}
 use denote.Ref.{now}
 use native.Mathlib.Omega.{arith}
 use Rattle.base.proofs.Fill.{copied-none, copied-all}
 use Rattle.name.specs.Promise.{textOf}
 use Rattle.name.proofs.DottedLaws.{length-textOf, Dotting, names-size, dotting-none, dotting-more, dotting-all, dotted-all}
-use Rattle.name.proofs.text.put_text.Statement.{statement}
-use Rattle.name.proofs.text.put_text.Tie as tie
+use Rattle.name_text.proofs.put_text.Statement.{statement}
+use Rattle.name_text.proofs.put_text.Tie as tie
 
 abbrev Inv-loop : tie.InvT-loop
 Inv-loop to₀ at name n i₀ to i = Dotting to₀ at name to i

@@ -3,9 +3,9 @@ use mathlib.Core.Path.{sym, _∙_}
 use mathlib.Core.Bool.{true≢false}
 use native.Mathlib.Omega.{arith}
 use borrow.Author.Needs.{needs}
 use Rattle.name.proofs.LeadLaws.{Dotless, dotless-none, dotless-more}
-use Rattle.name.proofs.text.is_dotless.Statement.{statement}
-use Rattle.name.proofs.text.is_dotless.Tie as tie
+use Rattle.name_text.proofs.is_dotless.Statement.{statement}
+use Rattle.name_text.proofs.is_dotless.Tie as tie
 
 abbrev Inv-loop : tie.InvT-loop
 Inv-loop word at dotless₀ i₀ dotless i = Dotless word at dotless i
