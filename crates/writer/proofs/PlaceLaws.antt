@@ -6,8 +6,9 @@ use native.Mathlib.Omega.{arith}
 use lib.ListN.{length, take, replicate, length-append, length-replicate}
 use lib.Seq.{take-at}
 use Rattle.base.specs.Logic.{Every}
-use Rattle.name.specs.Name.{wire, Proper, padded}
+use Rattle.name.specs.Name.{padded}
 use Rattle.name.specs.Promise.{textOf}
+use Rattle.name.proofs.WireLaws.{proper-some, proper-short}
 use Rattle.dhcid_text.specs.DhcidReading.{zeroFilled}
 use Rattle.dhcid_text.proofs.DhcidWordLaws.{length-dhcid}
 use Rattle.dhcid_text.proofs.Theorems.{written-dhcid}
@@ -67,17 +68,6 @@ pub record Occupied (p : Record) : Type 0 where
   pub within : p .«owner_len» ≤ length (p .owner)
   pub short : p .«owner_len» ≤ 255
   pub long : length (p .rdata) ≡ 35
-
-some-wire : (ls : List (List ℕ)) → 1 ≤ length (wire ls)
-unfolding wire
-some-wire [] = omega arith
-some-wire (l ∷ ls) = omega arith
-
-proper-some : (n : List ℕ) → Proper n → 1 ≤ length n
-proper-some n p = omega (arith, ap length (p .form), some-wire (p .labels))
-
-proper-short : (n : List ℕ) → Proper n → length n ≤ 255
-proper-short n p = omega (arith, ap length (p .form), p .name .short)
 
 held-occupied : (r : ResourceRecord) → WellFormed r → Occupied (held r)
 unfolding held padded
