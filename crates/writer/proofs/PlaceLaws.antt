@@ -1,17 +1,15 @@
 -- A place that holds a well-formed record: its bytes' line is the record's, and how long that is. Assumes nothing.
-use Prim.Native.Nat.{ℕ, _+_, _-_, _≤_, _<_}
+use Prim.Native.Nat.{ℕ, _+_, _-_, _≤_}
 use mathlib.Core.Path.{_≡_, refl, sym, ap, subst, _∙_}
 use mathlib.Core.List.{List, [], _∷_, _++_}
 use native.Mathlib.Omega.{arith}
 use lib.ListN.{length, take, replicate, length-append, length-replicate}
 use lib.Seq.{take-at}
-use Rattle.base.specs.Logic.{Every}
+use Rattle.base.proofs.DhcidLaws.{dhcid-length}
 use Rattle.name.specs.Name.{padded}
 use Rattle.name.specs.Promise.{textOf}
 use Rattle.name.proofs.WireLaws.{proper-some, proper-short}
 use Rattle.dhcid_text.specs.DhcidReading.{zeroFilled}
-use Rattle.dhcid_text.proofs.DhcidWordLaws.{length-dhcid}
-use Rattle.dhcid_text.proofs.Theorems.{written-dhcid}
 use Rattle.grammar.specs.Listing.{RecordType, ResourceRecord}
 use Rattle.entry.specs.Parts.{number}
 use Rattle.entry.specs.EntryIs.{held}
@@ -27,25 +25,21 @@ pub owner-held : (n : List ℕ) → take (length n) (padded n) ≡ n
 unfolding padded
 owner-held n = take-at n (replicate (255 - length n) 0) (length n) refl
 
-pub long-dhcid : (bs : List ℕ) → Every (λ b. b < 256) bs → RdataOf RecordType.DHCID bs → length bs ≡ 35
+rdata-fits : (k : RecordType) (bs : List ℕ) → RdataOf k bs → length bs ≤ 35
 unfolding RdataOf
-long-dhcid bs bytes test = length-dhcid (written-dhcid bs bytes test)
-
-rdata-fits : (k : RecordType) (bs : List ℕ) → Every (λ b. b < 256) bs → RdataOf k bs → length bs ≤ 35
-unfolding RdataOf
-rdata-fits RecordType.A bs bytes e = omega arith
-rdata-fits RecordType.AAAA bs bytes e = omega arith
-rdata-fits RecordType.DHCID bs bytes e = omega (arith, long-dhcid bs bytes e)
+rdata-fits RecordType.A bs e = omega arith
+rdata-fits RecordType.AAAA bs e = omega arith
+rdata-fits RecordType.DHCID bs e = omega (arith, dhcid-length bs e)
 
 length-zeroFilled : (bs : List ℕ) → length bs ≤ 35 → length (zeroFilled bs) ≡ 35
 unfolding zeroFilled
 length-zeroFilled bs fits = length-append bs (replicate (35 - length bs) 0) ∙ omega (arith, length-replicate {A = ℕ} (35 - length bs) 0)
 
-rdata-held : (k : RecordType) (bs : List ℕ) → Every (λ b. b < 256) bs → RdataOf k bs → take (rdataSize k) (zeroFilled bs) ≡ bs
+rdata-held : (k : RecordType) (bs : List ℕ) → RdataOf k bs → take (rdataSize k) (zeroFilled bs) ≡ bs
 unfolding RdataOf zeroFilled
-rdata-held RecordType.A bs bytes e = take-at bs (replicate (35 - length bs) 0) 4 e
-rdata-held RecordType.AAAA bs bytes e = take-at bs (replicate (35 - length bs) 0) 16 e
-rdata-held RecordType.DHCID bs bytes e = take-at bs (replicate (35 - length bs) 0) 35 (long-dhcid bs bytes e)
+rdata-held RecordType.A bs e = take-at bs (replicate (35 - length bs) 0) 4 e
+rdata-held RecordType.AAAA bs e = take-at bs (replicate (35 - length bs) 0) 16 e
+rdata-held RecordType.DHCID bs e = take-at bs (replicate (35 - length bs) 0) 35 (dhcid-length bs e)
 
 -- ---- the line
 
@@ -55,7 +49,7 @@ held-line r h =
     let k = r .rtype in
     let bs = r .rdata in
     ap (λ (n : List ℕ). textOf n ++ restPart (number k) (zeroFilled bs)) (owner-held (r .owner))
-    ∙ rest-line k bs (zeroFilled bs) (length-zeroFilled bs (rdata-fits k bs (h .bytes) (h .rdata))) (rdata-held k bs (h .bytes) (h .rdata)) (r .owner)
+    ∙ rest-line k bs (zeroFilled bs) (length-zeroFilled bs (rdata-fits k bs (h .rdata))) (rdata-held k bs (h .rdata)) (r .owner)
 
 pub place-line : (p : Record) (r : ResourceRecord) → Holds p r → lineOf p ≡ line r
 place-line p r h = ap lineOf (h .place) ∙ held-line r (h .well-formed)
@@ -76,7 +70,7 @@ held-occupied r h =
       some = proper-some (r .owner) (h .proper);
       within = omega (arith, length-append (r .owner) (replicate (255 - length (r .owner)) 0));
       short = proper-short (r .owner) (h .proper);
-      long = length-zeroFilled (r .rdata) (rdata-fits (r .rtype) (r .rdata) (h .bytes) (h .rdata));
+      long = length-zeroFilled (r .rdata) (rdata-fits (r .rtype) (r .rdata) (h .rdata));
     }
 
 pub place-occupied : (p : Record) (r : ResourceRecord) → Holds p r → Occupied p

@@ -10,6 +10,7 @@ use borrow.Author.Tests.{ltb-true}
 use Rattle.base.specs.Ascii.{isIn}
 use Rattle.base.specs.Bytes.{ascii}
 use Rattle.base.specs.Logic.{Every}
+use Rattle.base.proofs.DhcidLaws.{dhcid-length}
 use Rattle.base.proofs.Lists.{every-append, every-map, every-by}
 use Rattle.base.proofs.Tests.{and-left, below, at-each}
 use Rattle.name.specs.Label.{isUpper, isLower, isDigit, isLabelByte, Label}
@@ -26,7 +27,6 @@ use Rattle.address.proofs.WrittenLaws.{octetParts, length-octets}
 use Rattle.grammar.specs.Listing.{isVisible, kindOf, isWordByte, RecordType, mnemonic}
 use Rattle.writer.specs.Line.{RdataOf, rdataText}
 use Rattle.writer.proofs.PartLaws.{length-aaaa, length-dhcid}
-use Rattle.writer.proofs.PlaceLaws.{long-dhcid}
 
 abbrev WordBytes : List ℕ → Type 0
 WordBytes w = Every (λ b. isWordByte b ≡ true) w
@@ -175,4 +175,4 @@ pub rdata-word : (k : RecordType) (bs : List ℕ) → Every (λ b. b < 256) bs �
 unfolding rdataText RdataOf
 rdata-word RecordType.A bs bytes e = a-word bs bytes e
 rdata-word RecordType.AAAA bs bytes e = aaaa-word bs bytes e
-rdata-word RecordType.DHCID bs bytes e = dhcid-word bs bytes (long-dhcid bs bytes e)
+rdata-word RecordType.DHCID bs bytes e = dhcid-word bs bytes (dhcid-length bs e)
