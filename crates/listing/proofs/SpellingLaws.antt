@@ -1,11 +1,9 @@
 -- From what a text comes to, to what it spells or is refused with. Assumes nothing.
 use Prim.Native.Nat.{ℕ, _≤_}
-use mathlib.Core.Bool.{Bool, true, false, false≢true}
-use mathlib.Core.Path.{_≡_, ap, subst}
+use mathlib.Core.Path.{_≡_, sym, ap, subst}
 use mathlib.Core.List.{List}
 use lib.ListN.{length}
 use Rattle.base.specs.Answer.{value}
-use Rattle.base.specs.declared.Answer.{Answer}
 use Rattle.base.specs.declared.Answer.the-variants
 use Rattle.grammar.specs.Listing.{ResourceRecord, Spells}
 use Rattle.grammar.specs.Faults.{Refused}
@@ -13,6 +11,7 @@ use Rattle.grammar.specs.Outcome.{Outcome, accepted, refused, Checked}
 use Rattle.grammar.proofs.Reader.{Verdict, right, wrong, read, check}
 use Rattle.grammar.proofs.ReaderLaws.{Comes, spelled, faulted, comes, checks, checked}
 use Rattle.listing.specs.Reading.{limit, counted}
+use Rattle.listing.proofs.AnswerLaws.{accepted≢refused}
 
 -- a text that comes to a verdict
 comes-to : (t : List ℕ) (v : Verdict) → read t ≡ v → Comes t v
@@ -34,14 +33,9 @@ refused-by t rs n p e = go (comes-to t (wrong rs n p) e)
 pub check-by : (t : List ℕ) (o : Outcome) → Checked limit t o → counted (check limit t) ≡ counted o
 check-by t o c = ap counted (checked c)
 
-isAccepted : Answer → Bool
-isAccepted (the-variants.Accepted n) = true
-isAccepted (the-variants.Refused n p) = false
-
 pub count-of : (t : List ℕ) (n : ℕ) → counted (check limit t) ≡ the-variants.Accepted n → (rs : List ResourceRecord) × Spells t rs × (length rs ≡ n) × (length t ≤ limit)
-unfolding isAccepted
 count-of t n e = go (check limit t) (checks limit t) e
   where
     go : (o : Outcome) → Checked limit t o → counted o ≡ the-variants.Accepted n → (rs : List ResourceRecord) × Spells t rs × (length rs ≡ n) × (length t ≤ limit)
     go (accepted rs) (Checked.whole h s) q = (rs, s, ap value q, h)
-    go (refused m p) c q = absurd (false≢true (ap isAccepted q))
+    go (refused m p) c q = absurd (accepted≢refused (sym q))

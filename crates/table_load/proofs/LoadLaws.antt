@@ -1,7 +1,6 @@
 -- What a load answers and leaves, by what was found of the listing, of its records and of the area. Assumes nothing.
 use Prim.Native.Nat.{ℕ, _+_, _≤_, _<_}
-use mathlib.Core.Bool.{Bool, true, false, true≢false}
-use mathlib.Core.Path.{_≡_, refl, sym, ap, subst, _∙_}
+use mathlib.Core.Path.{_≡_, refl, sym, subst, _∙_}
 use mathlib.Core.Logic.{inl, inr}
 use mathlib.Core.List.{List, _++_}
 use native.Mathlib.Nat.{zero-add}
@@ -16,6 +15,7 @@ use Rattle.grammar.specs.Listing.{ResourceRecord}
 use Rattle.grammar.specs.Outcome.{accepted, refused, Checked}
 use Rattle.listing.specs.Reading.{limit}
 use Rattle.listing.specs.Giving.{Last, end, refusal, Gives, too-long, whole, faulty}
+use Rattle.listing.proofs.AnswerLaws.{accepted≢refused}
 use Rattle.listing.proofs.Theorems.{some-giving}
 use Rattle.slots.specs.Form.{tableBytes}
 use Rattle.slots.proofs.TableLaws.{length-table}
@@ -25,10 +25,6 @@ use Rattle.records.proofs.SoundLaws.{table-is}
 use Rattle.table_fault.specs.Sweeping.{Judges}
 use Rattle.table_fault.proofs.LookLaws.{given-well-formed}
 use Rattle.table_load.specs.Promise.{Loadable}
-
-isAccepted : Answer → Bool
-isAccepted (the-variants.Accepted n) = true
-isAccepted (the-variants.Refused n p) = false
 
 -- ---- what was found of the listing and of its records
 
@@ -44,23 +40,21 @@ module _ (t : List ℕ) where
   module _ (ps : List ℕ) (r : Answer) (judged : (rs : List ResourceRecord) (l : Last) → Gives t 0 rs l → Judges rs l ps r) where
     -- refused: so is the load
     pub loads-refused : (n p : ℕ) → r ≡ the-variants.Refused n p → (area : List ℕ) → Loads limit 64 t area (the-variants.Refused n p) area
-    unfolding isAccepted
     loads-refused n p e area = let g = some-giving t 0 in go (g .0) (g .1) (g .2) (judged (g .0) (g .1) (g .2))
       where
         go : (rs : List ResourceRecord) (l : Last) → Gives t 0 rs l → Judges rs l ps r → Loads limit 64 t area (the-variants.Refused n p) area
         go rs (refusal m q) g j = Loads.not-read (gives-refused g) (sym e ∙ j) refl
-        go rs end g (inl j) = absurd (true≢false (ap isAccepted (sym (j .0) ∙ e)))
+        go rs end g (inl j) = absurd (accepted≢refused (sym (j .0) ∙ e))
         go rs end g (inr (m, j, f)) = Loads.faulty (gives-accepted g) (fault-before (recordTests 64 rs) (areaTests 64 area) m f) (sym e ∙ j) refl
 
     -- accepted: the records make a table
     pub loadable : (n : ℕ) → r ≡ the-variants.Accepted n → (rs : List ResourceRecord) × Loadable t ps rs
-    unfolding isAccepted
     loadable n e = let g = some-giving t 0 in go (g .0) (g .1) (g .2) (judged (g .0) (g .1) (g .2))
       where
         go : (rs : List ResourceRecord) (l : Last) → Gives t 0 rs l → Judges rs l ps r → (rs : List ResourceRecord) × Loadable t ps rs
-        go rs (refusal m q) g j = absurd (true≢false (ap isAccepted (sym e ∙ j)))
+        go rs (refusal m q) g j = absurd (accepted≢refused (sym e ∙ j))
         go rs end g (inl j) = (rs, record { gives = g; single = j .1 .0; room = j .1 .1 .0; placed = j .2 })
-        go rs end g (inr (m, j, f)) = absurd (true≢false (ap isAccepted (sym e ∙ j)))
+        go rs end g (inr (m, j, f)) = absurd (accepted≢refused (sym e ∙ j))
 
   -- ---- records that make a table
 
