@@ -12,7 +12,7 @@ use Rattle.slots.specs.Fields.{bare, withField}
 use Rattle.slots.specs.Form.{TableEntry}
 use Rattle.table.specs.Steps.{find}
 use Rattle.records.specs.Gathered.{isOf, dataOf, owners, first, gathered, tableOf}
-use Rattle.records.specs.Promise.{rtypeOf, withRecord, storedBy, stored}
+use Rattle.records.specs.Promise.{rtypeOf, writtenBy, written, stored}
 use Rattle.records.proofs.DataLaws.{apart-types, of-is, other-owner, other-type, data-append, data-one, data-not-one}
 use Rattle.records.proofs.OwnerLaws.{among, by-among, among-apart, owners-distinct, owners-known, owners-new, no-data}
 use Rattle.records.proofs.MappedLaws.{names-mapped, mapped-absent, mapped-found, mapped-still, mapped-changed}
@@ -100,24 +100,28 @@ module _ (seen : List ResourceRecord) (r : ResourceRecord) where
           let own = ap first (data-first n RecordType.DHCID (of-is n RecordType.DHCID r e t) h) in
           λ i. record { name = n; a = a i; aaaa = aaaa i; holder = own i }
 
+  -- an entry with that record
+  abbrev withRecord : TableEntry → TableEntry
+  withRecord e = withField (rtypeOf (r .rtype)) (r .rdata) e
+
   module _ (none-yet : dataOf (r .owner) (r .rtype) seen ≡ []) where
-    gathered-own : withRecord r (gathered seen (r .owner)) ≡ gathered (seen ++ r ∷ []) (r .owner)
+    gathered-own : withRecord (gathered seen (r .owner)) ≡ gathered (seen ++ r ∷ []) (r .owner)
     gathered-own = sym (gathered-by (r .owner) (r .rtype) refl refl none-yet)
 
     stored-known : among (r .owner) (owners seen) ≡ true → stored r (tableOf seen) ≡ tableOf (seen ++ r ∷ [])
-    unfolding stored tableOf
+    unfolding stored written tableOf
     stored-known h =
-        ap (λ o. storedBy o r (tableOf seen)) (found-some seen (r .owner) h)
-        ∙ mapped-changed (gathered seen) (gathered-name seen) (r .owner) (gathered (seen ++ r ∷ [])) gathered-other (withRecord r) gathered-own (owners seen) (owners-distinct seen)
+        ap (λ o. writtenBy o (r .owner) (rtypeOf (r .rtype)) (r .rdata) (tableOf seen)) (found-some seen (r .owner) h)
+        ∙ mapped-changed (gathered seen) (gathered-name seen) (r .owner) (gathered (seen ++ r ∷ [])) gathered-other withRecord gathered-own (owners seen) (owners-distinct seen)
         ∙ ap (map (gathered (seen ++ r ∷ []))) (sym (owners-known seen r h))
 
     stored-new : among (r .owner) (owners seen) ≡ false → stored r (tableOf seen) ≡ tableOf (seen ++ r ∷ [])
-    unfolding stored tableOf
+    unfolding stored written tableOf
     stored-new h =
-        ap (λ o. storedBy o r (tableOf seen)) (found-none seen (r .owner) h)
+        ap (λ o. writtenBy o (r .owner) (rtypeOf (r .rtype)) (r .rdata) (tableOf seen)) (found-none seen (r .owner) h)
         ∙ ap₂ (λ (t : List TableEntry) (e : TableEntry). t ++ e ∷ [])
         (mapped-still (gathered seen) (gathered-name seen) (r .owner) (gathered (seen ++ r ∷ [])) gathered-other (owners seen) (among-apart (r .owner) (owners seen) h))
-        (ap (withRecord r) (sym (gathered-bare seen (r .owner) h)) ∙ gathered-own)
+        (ap withRecord (sym (gathered-bare seen (r .owner) h)) ∙ gathered-own)
         ∙ sym (map-append (gathered (seen ++ r ∷ [])) (owners seen) (r .owner ∷ []))
         ∙ ap (map (gathered (seen ++ r ∷ []))) (sym (owners-new seen r h))
 

@@ -1,4 +1,5 @@
 -- What the functions below a load promise one another.
+use Prim.Native.Nat.{ℕ}
 use mathlib.Core.List.{List, [], _∷_, _++_}
 use mathlib.Core.Option.{Option, none, some}
 use Rattle.grammar.specs.Listing.{RecordType, ResourceRecord}
@@ -14,14 +15,14 @@ rtypeOf RecordType.A = rtype.A
 rtypeOf RecordType.AAAA = rtype.Aaaa
 rtypeOf RecordType.DHCID = rtype.Dhcid
 
--- an entry with the record r
-abbrev pub withRecord : ResourceRecord → TableEntry → TableEntry
-withRecord r e = withField (rtypeOf (r .rtype)) (r .rdata) e
+-- a table with the bytes x in a field under the name n, which stands last if it is new
+abbrev pub writtenBy : Option TableEntry → List ℕ → Rtype → List ℕ → List TableEntry → List TableEntry
+writtenBy none n k x t = t ++ withField k x (bare n) ∷ []
+writtenBy (some e) n k x t = changed n (withField k x) t
 
--- a table with the record r under its owner, which stands last if it is new
-abbrev pub storedBy : Option TableEntry → ResourceRecord → List TableEntry → List TableEntry
-storedBy none r t = t ++ withRecord r (bare (r .owner)) ∷ []
-storedBy (some e) r t = changed (r .owner) (withRecord r) t
+unfoldable pub written : List ℕ → Rtype → List ℕ → List TableEntry → List TableEntry
+written n k x t = writtenBy (find n t) n k x t
 
+-- a table with the record r under its owner
 unfoldable pub stored : ResourceRecord → List TableEntry → List TableEntry
-stored r t = storedBy (find (r .owner) t) r t
+stored r t = written (r .owner) (rtypeOf (r .rtype)) (r .rdata) t

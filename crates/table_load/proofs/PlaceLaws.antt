@@ -2,7 +2,6 @@
 use Prim.Native.Nat.{ℕ, _-_, _≤_}
 use mathlib.Core.Path.{_≡_, refl, sym, ap, subst, _∙_}
 use mathlib.Core.List.{List}
-use mathlib.Core.Option.{Option, none, some}
 use native.Mathlib.Omega.{arith}
 use lib.ListN.{length, take, replicate}
 use lib.Seq.{take-at}
@@ -20,9 +19,8 @@ use Rattle.slots.specs.Fields.{fieldSize}
 use Rattle.slots.specs.Form.{TableEntry}
 use Rattle.slots.specs.declared.Rtype.{Rtype}
 use Rattle.slots.specs.declared.Rtype.the-variants as rtype
-use Rattle.table.specs.Steps.{find}
-use Rattle.records.specs.Promise.{rtypeOf, storedBy, stored}
-use Rattle.table_load.specs.Promise.{numbered, writtenBy, written, AtSlot, Storable}
+use Rattle.records.specs.Promise.{rtypeOf, written, stored}
+use Rattle.table_load.specs.Promise.{numbered, AtSlot, Storable}
 
 -- ---- the parts of a place
 
@@ -88,12 +86,7 @@ writable b used i p (r, h, at) k n e s =
     }
 
 -- and what it comes to: the record is stored
-stored-by : (o : Option TableEntry) (r : ResourceRecord) (t : List TableEntry) → writtenBy o (r .owner) (rtypeOf (r .rtype)) (r .rdata) t ≡ storedBy o r t
-stored-by none r t = refl
-stored-by (some e) r t = refl
-
 pub written-stored : (p : Record) (r : ResourceRecord) → Holds p r → (k : Rtype) (n : ℕ) → k ≡ numbered (p .rtype) → n ≡ fieldSize k → (t : List TableEntry)
     → written (nameIn p) k (take n (p .rdata)) t ≡ stored r t
-unfolding written stored
-written-stored p r h k n e s t =
-    (λ i. written (name-is p r h i) (type-is p r h k e i) (data-is p r h k n e s i) t) ∙ stored-by (find (r .owner) t) r t
+unfolding stored
+written-stored p r h k n e s t = λ i. written (name-is p r h i) (type-is p r h k e i) (data-is p r h k n e s i) t

@@ -13,7 +13,8 @@ use Rattle.slots.specs.declared.Rtype.the-variants as rtype
 use Rattle.table.specs.Promise.{inSlot}
 use Rattle.table.specs.declared.place.Place.the-variants.{Held, Free}
 use Rattle.table.proofs.StepLaws.{HeldAt, FreeAt, held-at, free-at}
-use Rattle.table_load.specs.Promise.{numbered, writtenBy, written, AtSlot}
+use Rattle.records.specs.Promise.{writtenBy, written}
+use Rattle.table_load.specs.Promise.{numbered, AtSlot}
 
 -- a number that is neither A's nor AAAA's
 pub other-type : (n : ℕ) → (n ≡ 1 → ⊥) → (n ≡ 28 → ⊥) → rtype.Dhcid ≡ numbered n

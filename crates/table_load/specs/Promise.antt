@@ -2,20 +2,17 @@
 use Prim.Native.Nat.{ℕ, _*_, _≤_}
 use mathlib.Core.Bool.{cond}
 use mathlib.Core.Path.{_≡_}
-use mathlib.Core.List.{List, [], _∷_, _++_}
-use mathlib.Core.Option.{Option, none, some}
+use mathlib.Core.List.{List, _++_}
 use lib.Dec.{eqb, ltb}
 use lib.ListN.{length}
 use Rattle.grammar.specs.Listing.{ResourceRecord}
 use Rattle.entry.specs.declared.Record.{Record}
 use Rattle.writer.specs.Line.{Holds}
 use Rattle.listing.specs.Giving.{end, Gives}
-use Rattle.slots.specs.Fields.{bare, withField}
-use Rattle.slots.specs.Form.{TableEntry, slotSize, tableBytes}
+use Rattle.slots.specs.Form.{slotSize, tableBytes}
 use Rattle.slots.specs.Promise.{OfTable}
 use Rattle.slots.specs.declared.Rtype.{Rtype}
 use Rattle.slots.specs.declared.Rtype.the-variants as rtype
-use Rattle.table.specs.Steps.{find, changed}
 use Rattle.table.specs.Promise.{placeOf}
 use Rattle.table.specs.declared.place.Place.the-variants.{Held, Free}
 use Rattle.table_fault.specs.Sweeping.{Placed}
@@ -27,14 +24,6 @@ use Rattle.records.specs.Gathered.{Single, owners, tableOf}
 -- the type by its number: 1 is A, 28 AAAA, any other DHCID
 abbrev pub numbered : ℕ → Rtype
 numbered n = cond (eqb n 1) rtype.A (cond (eqb n 28) rtype.Aaaa rtype.Dhcid)
-
--- a table with the bytes x in a field under the name n, which stands last if it is new
-abbrev pub writtenBy : Option TableEntry → List ℕ → Rtype → List ℕ → List TableEntry → List TableEntry
-writtenBy none n k x t = t ++ withField k x (bare n) ∷ []
-writtenBy (some e) n k x t = changed n (withField k x) t
-
-unfoldable pub written : List ℕ → Rtype → List ℕ → List TableEntry → List TableEntry
-written n k x t = writtenBy (find n t) n k x t
 
 -- the table b has so many names, and slot i is that of the name n, or the first unused one if it is new
 unfoldable pub AtSlot : List ℕ → ℕ → List ℕ → ℕ → Type 0

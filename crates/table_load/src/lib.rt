@@ -26,7 +26,7 @@ ghost use Rattle.listing.specs.Giving.{end, Gives};
 ghost use Rattle.name.specs.Name.{canonical};
 ghost use Rattle.records.specs.Calls.{Loads};
 ghost use Rattle.records.specs.Gathered.{tableOf};
-ghost use Rattle.records.specs.Promise.{stored};
+ghost use Rattle.records.specs.Promise.{written, stored};
 ghost use Rattle.slots.specs.Fields.{bare, withField, fieldSize};
 ghost use Rattle.slots.specs.Form.{IsSlot, slotBytes, tableBytes, Sound};
 ghost use Rattle.slots.specs.Promise.{OfSlot, OfTable};
@@ -77,7 +77,7 @@ fn enter_at(table: &mut [u8], at: usize, name: &[u8], rtype: Rtype, bytes: &[u8]
 // A record under its owner, a name in canonical form that has none of that type, in slot i, which is unused where the name is new.
 fn write_in(table: &mut [u8], i: usize, used: usize, name: &[u8], rtype: Rtype, bytes: &[u8])
     requires { ⌜ (Sound 64 (now table)) × (i ≤ 255) × (canonical (now name) ≡ now name) × (length (now name) ≤ 255) × (length (now bytes) ≡ fieldSize rtype) × (spec.AtSlot (now table) used (now name) i) ⌝ }
-    ensures { λ _. ⌜ OfTable 64 (now (table .entry)) (λ t. now (table .exit) ≡ tableBytes 64 (spec.written (now (name .entry)) rtype (now (bytes .entry)) t)) ⌝ }
+    ensures { λ _. ⌜ OfTable 64 (now (table .entry)) (λ t. now (table .exit) ≡ tableBytes 64 (written (now (name .entry)) rtype (now (bytes .entry)) t)) ⌝ }
 {
     if i < used {
         put_at(table, slot::SIZE * i, rtype, bytes);
