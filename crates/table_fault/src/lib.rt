@@ -79,12 +79,6 @@ fn type_bit(rtype: u8) -> u8
     }
 }
 
-pub fn wide(b: u8) -> usize
-    ensures { λ r. ⌜ (r ≡ b) × (r ≤ 255) ⌝ }
-{
-    b as usize
-}
-
 // Is the word, in any case, the text of the name? Label by label: a label stands in text one byte before its place in wire form, and its dot where the next length stands.
 fn is_text_of(word: &[u8], name: &[u8]) -> bool
     requires { ⌜ length (now word) + 1 ≡ length (now name) ⌝ }
@@ -92,7 +86,7 @@ fn is_text_of(word: &[u8], name: &[u8]) -> bool
 {
     let mut at: usize = 0;
     while at < word.len() {
-        let end = at + wide(name[at]);
+        let end = at + name[at] as usize;
         if word.len() <= end {
             return matches(&word[at..], &name[at + 1..]);
         }

@@ -1,6 +1,7 @@
 use Prim.Native.Nat.{_+_, _-_}
+use mathlib.Core.Path.{refl}
 use native.Mathlib.Omega.{arith}
-use lib.ListN.{length}
+use lib.ListN.{length, getD}
 use borrow.Author.Needs.{needs}
 use borrow.Author.Tests.{not-true, not-false}
 use Rattle.base.proofs.Tests.{yes-by, no-by}
@@ -17,14 +18,14 @@ abbrev μ-loop : tie.MeasureT-loop
 loop-holds : tie.Need-loop-holds Inv-loop μ-loop
 loop-holds c = same-none _ _ (c .before .before .pre)
 
-shared-slice-read-wide : tie.Need-shared-slice-read-wide Inv-loop μ-loop
-shared-slice-read-wide c = omega arith
+shared-slice-read-end : tie.Need-shared-slice-read-end Inv-loop μ-loop
+shared-slice-read-end c = omega arith
 
-wide-requires : tie.Need-wide-requires Inv-loop μ-loop
-wide-requires c κs = search needs
+cast-end : tie.Need-cast-end Inv-loop μ-loop
+cast-end c = omega (arith, c .shared-slice-known3 .given (c .before .before .loop .at))
 
 add-end : tie.Need-add-end Inv-loop μ-loop
-add-end c = omega arith
+add-end c = omega (arith, c .shared-slice-known3 .given (c .before .before .loop .at))
 
 sub-matches : tie.Need-sub-matches Inv-loop μ-loop
 sub-matches c = omega arith
@@ -52,24 +53,23 @@ matches-requires c κs = search needs
 
 returns : tie.Need-returns Inv-loop μ-loop
 returns c =
-    let a = c .before .before .before .before .before .before .before .before .before .before in
+    let a = c .before .before .before .before .before .before .before .before .before in
     let w = a .args .word .now in
     let n = a .args .name .now in
-    let l = c .before .before .before .before .before .before .before .loop in
-    let v = c .before .before .before .before .wide in
-    same-last w n (a .pre) (l .at) (l .inv) (omega (arith, v .ensures .0)) (c .matches .result) (length w - l .at) (length n - (l .at + 1)) (omega arith) (omega arith) (c .matches .ensures)
+    let l = c .before .before .before .before .before .before .loop in
+    same-last w n (a .pre) (l .at) (l .inv) (omega arith) (c .matches .result) (length w - l .at) (length n - (l .at + 1)) (omega arith) (omega arith) (c .matches .ensures)
 
 shared-slice-read-if2 : tie.Need-shared-slice-read-if2 Inv-loop μ-loop
 shared-slice-read-if2 c = omega arith
 
 returns-2 : tie.Need-returns-2 Inv-loop μ-loop
 returns-2 c =
-    let a = c .before .before .before .before .before .before .before .before .before in
+    let a = c .before .before .before .before .before .before .before .before in
     let w = a .args .word .now in
     let n = a .args .name .now in
-    let l = c .before .before .before .before .before .before .loop in
-    let v = c .before .before .before .wide in
-    no-by (not-dotted w n (a .pre) (l .at) (l .inv) (v .result) (v .ensures .0) (omega arith) (c .if2 .taken))
+    let l = c .before .before .before .before .before .loop in
+    let k = getD n (l .at) 0 in
+    no-by (not-dotted w n (a .pre) (l .at) (l .inv) k refl (omega arith) (c .if2 .taken))
 
 sub-matches-3 : tie.Need-sub-matches-3 Inv-loop μ-loop
 sub-matches-3 c = omega arith
@@ -100,12 +100,12 @@ matches-requires-2 c κs = search needs
 
 returns-3 : tie.Need-returns-3 Inv-loop μ-loop
 returns-3 c =
-    let a = c .before .before .before .before .before .before .before .before .before .before .before .before .before in
+    let a = c .before .before .before .before .before .before .before .before .before .before .before .before in
     let w = a .args .word .now in
     let n = a .args .name .now in
-    let l = c .before .before .before .before .before .before .before .before .before .before .loop in
-    let v = c .before .before .before .before .before .before .before .wide in
-    no-by (not-labelled w n (a .pre) (l .at) (l .inv) (v .result) (v .ensures .0) (omega arith) (l .at + v .result - l .at) (l .at + v .result + 1 - (l .at + 1)) (omega arith) (omega arith) (c .before .matches2 .result) (c .before .matches2 .ensures) (not-true _ (c .if3 .taken)))
+    let l = c .before .before .before .before .before .before .before .before .before .loop in
+    let k = getD n (l .at) 0 in
+    no-by (not-labelled w n (a .pre) (l .at) (l .inv) k refl (omega arith) (l .at + k - l .at) (l .at + k + 1 - (l .at + 1)) (omega arith) (omega arith) (c .before .matches2 .result) (c .before .matches2 .ensures) (not-true _ (c .if3 .taken)))
 
 add-at : tie.Need-add-at Inv-loop μ-loop
 add-at c = omega arith
@@ -115,12 +115,12 @@ loop-less c = omega arith
 
 loop-again : tie.Need-loop-again Inv-loop μ-loop
 loop-again c =
-    let a = c .before .before .before .before .before .before .before .before .before .before .before .before .before in
+    let a = c .before .before .before .before .before .before .before .before .before .before .before .before in
     let w = a .args .word .now in
     let n = a .args .name .now in
-    let l = c .before .before .before .before .before .before .before .before .before .before .loop in
-    let v = c .before .before .before .before .before .before .before .wide in
-    same-more w n (a .pre) (l .at) (l .inv) (v .result) (v .ensures .0) (omega arith) (c .before .before .before .before .if2 .left) (l .at + v .result - l .at) (l .at + v .result + 1 - (l .at + 1)) (omega arith) (omega arith) (c .before .matches2 .result) (c .before .matches2 .ensures) (not-false _ (c .if3 .left))
+    let l = c .before .before .before .before .before .before .before .before .before .loop in
+    let k = getD n (l .at) 0 in
+    same-more w n (a .pre) (l .at) (l .inv) k refl (omega arith) (c .before .before .before .before .if2 .left) (l .at + k - l .at) (l .at + k + 1 - (l .at + 1)) (omega arith) (omega arith) (c .before .matches2 .result) (c .before .matches2 .ensures) (not-false _ (c .if3 .left))
 
 returns-4 : tie.Need-returns-4 Inv-loop μ-loop
 returns-4 c =
@@ -137,8 +137,8 @@ is-text-of-spec =
     Inv-loop
     μ-loop
     loop-holds
-    shared-slice-read-wide
-    wide-requires
+    shared-slice-read-end
+    cast-end
     add-end
     sub-matches
     part-matches-start
