@@ -133,7 +133,7 @@ fn store_next(table: &mut [u8], text: &[u8], places: &[u8], from: Progress) -> P
     let content = entry.content;
     match content {
         Content::Record => {
-            let i = wide(places[count]);
+            let i = places[count] as usize;
             store(table, i, used, record);
             Progress {
                 at: next,

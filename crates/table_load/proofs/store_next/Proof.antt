@@ -1,3 +1,4 @@
+use mathlib.Core.Path.{refl}
 use native.Mathlib.Omega.{arith}
 use borrow.Author.Needs.{needs}
 use Rattle.table_load.proofs.FillLaws.{filled-sound, next-of, place-within, next-holds, next-storable, filled-more, filled-still, no-fault}
@@ -10,33 +11,40 @@ read-entry-requires c κs = let a = c .before .before .before in omega (arith, a
 enum-told : tie.Need-enum-told
 enum-told c = search needs
 
-shared-slice-read-wide : tie.Need-shared-slice-read-wide
-shared-slice-read-wide c =
+shared-slice-read-i : tie.Need-shared-slice-read-i
+shared-slice-read-i c =
     let a = c .before .before .before .before .before .before .before .before in
     let e = c .before .before .before .before .read-entry in
     let n = next-of _ _ _ _ (a .pre .2) (e .result) (e .ensures) (a .pre .0) (c .before .enum-told .given .1) in
     omega (arith, place-within _ _ _ _ (a .pre .2) (e .result) (e .ensures) (a .pre .0) n, a .pre .1)
 
-wide-requires : tie.Need-wide-requires
-wide-requires c κs = search needs
+cast-i : tie.Need-cast-i
+cast-i c =
+    let a = c .before .before .before .before .before .before .before .before in
+    omega (arith, c .shared-slice-known3 .given (a .args .from .count))
 
 store-requires : tie.Need-store-requires
 store-requires c κs =
-    let a = c .before .before .before .before .before .before .before .before .before .before in
-    let e = c .before .before .before .before .before .before .read-entry in
-    let n = next-of _ _ _ _ (a .pre .2) (e .result) (e .ensures) (a .pre .0) (c .before .before .before .enum-told .given .1) in
-    let i = c .before .wide in
-    (filled-sound _ _ _ _ (a .pre .2), i .ensures .1, next-storable _ _ _ _ (a .pre .2) (e .result) (e .ensures) (a .pre .0) n (i .result) (i .ensures .0))
+    let a = c .before .before .before .before .before .before .before .before .before in
+    let e = c .before .before .before .before .before .read-entry in
+    let n = next-of _ _ _ _ (a .pre .2) (e .result) (e .ensures) (a .pre .0) (c .before .before .enum-told .given .1) in (
+      filled-sound _ _ _ _ (a .pre .2),
+      omega (arith, c .before .shared-slice-known3 .given (a .args .from .count)),
+      next-storable _ _ _ _ (a .pre .2) (e .result) (e .ensures) (a .pre .0) n _ refl,
+    )
 
 add-t19 : tie.Need-add-t19
 add-t19 c =
-    let a = c .before .before .before .before .before .before .before .before .before .before .before .before .before in
-    let e = c .before .before .before .before .before .before .before .before .before .read-entry in
-    let n = next-of _ _ _ _ (a .pre .2) (e .result) (e .ensures) (a .pre .0) (c .before .before .before .before .before .before .enum-told .given .1) in
+    let a = c .before .before .before .before .before .before .before .before .before .before .before .before in
+    let e = c .before .before .before .before .before .before .before .before .read-entry in
+    let n = next-of _ _ _ _ (a .pre .2) (e .result) (e .ensures) (a .pre .0) (c .before .before .before .before .before .enum-told .given .1) in
     omega (arith, place-within _ _ _ _ (a .pre .2) (e .result) (e .ensures) (a .pre .0) n)
 
 used-with-requires : tie.Need-used-with-requires
-used-with-requires c κs = c .before .before .before .before .wide .ensures .1
+used-with-requires c κs =
+    let k = c .before .before .before .before in
+    let a = k .before .before .before .before .before .before .before .before in
+    omega (arith, k .shared-slice-known3 .given (a .args .from .count))
 
 enum-told-2 : tie.Need-enum-told-2
 enum-told-2 c = search needs
@@ -49,11 +57,10 @@ same-length c = search needs
 
 returns : tie.Need-returns
 returns c =
-    let a = c .before .before .before .before .before .before .before .before .before .before .before .before .before .before in
-    let e = c .before .before .before .before .before .before .before .before .before .before .read-entry in
-    let n = next-of _ _ _ _ (a .pre .2) (e .result) (e .ensures) (a .pre .0) (c .before .before .before .before .before .before .before .enum-told .given .1) in
-    let i = c .before .before .before .before .before .wide in
-    (filled-more _ _ _ _ (a .pre .2) (e .result) (e .ensures) (a .pre .0) n (i .result) (i .ensures .0) _ (c .before .before .before .store .ensures (n .head) (next-holds _ _ _ _ (a .pre .2) (e .result) (e .ensures) (a .pre .0) n)) _ (c .used-with .ensures), e .ensures .on (a .pre .0))
+    let a = c .before .before .before .before .before .before .before .before .before .before .before .before .before in
+    let e = c .before .before .before .before .before .before .before .before .before .read-entry in
+    let n = next-of _ _ _ _ (a .pre .2) (e .result) (e .ensures) (a .pre .0) (c .before .before .before .before .before .before .enum-told .given .1) in
+    (filled-more _ _ _ _ (a .pre .2) (e .result) (e .ensures) (a .pre .0) n _ refl _ (c .before .before .before .store .ensures (n .head) (next-holds _ _ _ _ (a .pre .2) (e .result) (e .ensures) (a .pre .0) n)) _ (c .used-with .ensures), e .ensures .on (a .pre .0))
 
 returns-2 : tie.Need-returns-2
 returns-2 c =
@@ -73,8 +80,8 @@ store-next-spec =
     (tie.spec
     read-entry-requires
     enum-told
-    shared-slice-read-wide
-    wide-requires
+    shared-slice-read-i
+    cast-i
     store-requires
     add-t19
     used-with-requires
