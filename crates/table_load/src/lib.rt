@@ -14,7 +14,6 @@ use slot_row::make_empty;
 use slots::Rtype;
 use table_fault::RECORDS;
 use table_fault::judge;
-use table_fault::wide;
 ghost use mathlib.Core.Bool.{cond};
 ghost use mathlib.Core.Path.{_≡_};
 ghost use mathlib.Core.List.{List};
