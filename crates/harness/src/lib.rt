@@ -1,40 +1,9 @@
-// What the test programs have in common: how they print, and how they look through bytes. Nothing is promised of what comes out, since nothing is of what
-// the C library writes: each program's output is compared with its file `stdout`.
-use libc::STDOUT_FILENO;
+// How the test programs look through bytes.
 ghost use mathlib.Core.Path.{_≡_};
 ghost use Prim.Native.Nat.{_≤_};
 ghost use lib.ListN.{length};
 ghost use Rattle.base.specs.Logic.{Every, Decides};
 ghost use Rattle.harness.specs.Finding.{Next};
-
-pub fn print(bytes: &[u8]) {
-    io::write_all(STDOUT_FILENO, bytes);
-}
-
-// In decimal.
-pub fn print_number(n: u64) {
-    io::print_decimal(STDOUT_FILENO, n);
-}
-
-fn wide(b: u8) -> u64 {
-    b as u64
-}
-
-// Two lower-case digits for each byte.
-pub fn print_hex(bytes: &[u8]) {
-    let mut i: usize = 0;
-    while i < bytes.len() {
-        io::print_hex(STDOUT_FILENO, wide(bytes[i]), 2);
-        i += 1;
-    }
-}
-
-pub fn print_refusal(number: u32, offset: u32) {
-    print(b"refused ");
-    print_number(number as u64);
-    print(b" at ");
-    print_number(offset as u64);
-}
 
 // Is each of the bytes b?
 pub fn is_all(bytes: &[u8], b: u8) -> bool

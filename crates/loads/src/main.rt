@@ -8,14 +8,28 @@ use base::slice::put;
 use check::same;
 use harness::find;
 use harness::is_all;
-use harness::print;
-use harness::print_number;
-use harness::print_refusal;
 use libc::STDIN_FILENO;
+use libc::STDOUT_FILENO;
 use table_load::load;
 use table_write::write;
 ghost use mathlib.Core.Path.{_≡_};
 ghost use lib.ListN.{length};
+
+fn print(bytes: &[u8]) {
+    io::write_all(STDOUT_FILENO, bytes);
+}
+
+// In decimal.
+fn print_number(n: u64) {
+    io::print_decimal(STDOUT_FILENO, n);
+}
+
+fn print_refusal(number: u32, offset: u32) {
+    print(b"refused ");
+    print_number(number as u64);
+    print(b" at ");
+    print_number(offset as u64);
+}
 
 // No fewer bytes than the input has.
 const INPUT: usize = 8192;

@@ -1,8 +1,7 @@
 // Names that the papers print, read and written. What each line must be stands in the file `stdout`, written before this program first ran, from
 // RFC 1035 (2.3.1, 4.1.4), RFC 4034 (6.1), RFC 4343 (2, 2.2, 4.1) and document 01 ("Both sides of each edge"), with document 01's rules for what is
 // no name: an escape, a star, a missing dot, an empty label. A text is followed by its canonical wire form, wire bytes by their text.
-use harness::print;
-use harness::print_hex;
+use libc::STDOUT_FILENO;
 use name::wire::canonical;
 use name::wire::is_proper;
 use name::wire::matches;
@@ -10,6 +9,23 @@ use name_text::from_text;
 use name_text::put_text;
 ghost use Prim.Native.Nat.{_≤_};
 ghost use lib.ListN.{length};
+
+fn print(bytes: &[u8]) {
+    io::write_all(STDOUT_FILENO, bytes);
+}
+
+fn wide(b: u8) -> u64 {
+    b as u64
+}
+
+// Two lower-case digits for each byte.
+fn print_hex(bytes: &[u8]) {
+    let mut i: usize = 0;
+    while i < bytes.len() {
+        io::print_hex(STDOUT_FILENO, wide(bytes[i]), 2);
+        i += 1;
+    }
+}
 
 fn text(word: &[u8]) {
     print(word);

@@ -9,10 +9,8 @@ use dhcid::Chosen;
 use dhcid::choose;
 use dhcid::put_dhcid;
 use harness::find;
-use harness::print;
-use harness::print_hex;
-use harness::print_number;
 use libc::STDIN_FILENO;
+use libc::STDOUT_FILENO;
 use message::Part;
 use message::Request;
 use message4::read4;
@@ -20,6 +18,28 @@ use message6::read6;
 use text::digit::digit_value;
 ghost use Prim.Native.Nat.{_+_, _≤_, _<_};
 ghost use lib.ListN.{length};
+
+fn print(bytes: &[u8]) {
+    io::write_all(STDOUT_FILENO, bytes);
+}
+
+// In decimal.
+fn print_number(n: u64) {
+    io::print_decimal(STDOUT_FILENO, n);
+}
+
+fn wide(b: u8) -> u64 {
+    b as u64
+}
+
+// Two lower-case digits for each byte.
+fn print_hex(bytes: &[u8]) {
+    let mut i: usize = 0;
+    while i < bytes.len() {
+        io::print_hex(STDOUT_FILENO, wide(bytes[i]), 2);
+        i += 1;
+    }
+}
 
 const LINE_END: u8 = 10;
 

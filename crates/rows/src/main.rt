@@ -5,11 +5,37 @@ use base::Answer;
 use check::same;
 use entry::Record;
 use harness::is_all;
-use harness::print;
-use harness::print_hex;
-use harness::print_number;
-use harness::print_refusal;
+use libc::STDOUT_FILENO;
 use row::read_four;
+
+fn print(bytes: &[u8]) {
+    io::write_all(STDOUT_FILENO, bytes);
+}
+
+// In decimal.
+fn print_number(n: u64) {
+    io::print_decimal(STDOUT_FILENO, n);
+}
+
+fn wide(b: u8) -> u64 {
+    b as u64
+}
+
+// Two lower-case digits for each byte.
+fn print_hex(bytes: &[u8]) {
+    let mut i: usize = 0;
+    while i < bytes.len() {
+        io::print_hex(STDOUT_FILENO, wide(bytes[i]), 2);
+        i += 1;
+    }
+}
+
+fn print_refusal(number: u32, offset: u32) {
+    print(b"refused ");
+    print_number(number as u64);
+    print(b" at ");
+    print_number(offset as u64);
+}
 
 // What a place holds before the call: no record has this type.
 const MARK: u8 = 170;

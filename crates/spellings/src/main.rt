@@ -12,8 +12,24 @@ use dhcid_text::DhcidWords;
 use dhcid_text::ReadDhcid;
 use dhcid_text::put_base64;
 use harness::find;
-use harness::print;
-use harness::print_hex;
+use libc::STDOUT_FILENO;
+
+fn print(bytes: &[u8]) {
+    io::write_all(STDOUT_FILENO, bytes);
+}
+
+fn wide(b: u8) -> u64 {
+    b as u64
+}
+
+// Two lower-case digits for each byte.
+fn print_hex(bytes: &[u8]) {
+    let mut i: usize = 0;
+    while i < bytes.len() {
+        io::print_hex(STDOUT_FILENO, wide(bytes[i]), 2);
+        i += 1;
+    }
+}
 
 fn a(word: &[u8]) {
     print(b"A ");

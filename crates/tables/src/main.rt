@@ -10,14 +10,34 @@ use base::slice::put;
 use check::same;
 use harness::find;
 use harness::is_all;
-use harness::print;
-use harness::print_hex;
-use harness::print_number;
 use libc::STDIN_FILENO;
+use libc::STDOUT_FILENO;
 use slot_row::SIZE;
 ghost use mathlib.Core.Path.{_≡_};
 ghost use Prim.Native.Nat.{_≤_, _<_};
 ghost use lib.ListN.{length};
+
+fn print(bytes: &[u8]) {
+    io::write_all(STDOUT_FILENO, bytes);
+}
+
+// In decimal.
+fn print_number(n: u64) {
+    io::print_decimal(STDOUT_FILENO, n);
+}
+
+fn wide(b: u8) -> u64 {
+    b as u64
+}
+
+// Two lower-case digits for each byte.
+fn print_hex(bytes: &[u8]) {
+    let mut i: usize = 0;
+    while i < bytes.len() {
+        io::print_hex(STDOUT_FILENO, wide(bytes[i]), 2);
+        i += 1;
+    }
+}
 
 fn print_field(bytes: &[u8]) {
     print(b" ");

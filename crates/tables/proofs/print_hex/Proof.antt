@@ -1,8 +1,8 @@
 use borrow.Author.Needs.{needs}
 use Prim.Native.Nat.{_-_, _≤_}
 use lib.ListN.{length}
-use Rattle.harness.proofs.print_hex.Statement.{statement}
-use Rattle.harness.proofs.print_hex.Tie as tie
+use Rattle.tables.proofs.print_hex.Statement.{statement}
+use Rattle.tables.proofs.print_hex.Tie as tie
 
 abbrev Inv-loop : tie.InvT-loop
 Inv-loop bytes i₀ i = i ≤ length bytes
