@@ -3,11 +3,11 @@ use Prim.Native.Nat.{ℕ, suc, _+_, _-_, _*_, _/_, _%_, _≤_, _<_}
 use mathlib.Core.Path.{_≡_, refl, sym, ap, ap₂, subst, _∙_}
 use mathlib.Core.List.{List, [], _∷_, _++_, append-assoc, append-nil}
 use native.Mathlib.Omega.{arith}
-use lib.ListN.{length, getD, set, replicate, length-append, List·getD-append, take}
-use lib.Seq.{append-snoc, set-append-seam, getD-append-seam, getD-append-add, getD-at}
+use lib.ListN.{length, getD, set, replicate, length-append, List·getD-append, take, drop}
+use lib.Seq.{append-snoc, set-append-seam, getD-append-seam, getD-append-add, getD-at, drop-cons, take-add}
 use Rattle.base.specs.Logic.{Every}
 use Rattle.dhcid_text.specs.Dhcid.{digit64, base64}
-use Rattle.dhcid_text.specs.DhcidReading.{value64, zeroFilled, Quantum, Begun64, Done64, Refused64, Text64}
+use Rattle.dhcid_text.specs.DhcidReading.{value64, zeroFilled, stateOf, Quantum, Begun64, Done64, Refused64, Text64}
 use Rattle.dhcid_text.specs.declared.DhcidWords.{DhcidWords}
 use Rattle.dhcid_text.proofs.HexLaws.{take-one}
 use Rattle.dhcid_text.proofs.Base64Laws.{value-digit, digit-value, same-digit, base64-on, length-whole, Shape, shape}
@@ -152,6 +152,103 @@ module _ (s r : DhcidWords) (v : ℕ) (hv : v < 64) (more : s .count < 47) (cs :
             bytes-more (a ∷ a′ ∷ []) (s .count / 4 * 3 + 2) c g (omega (arith, h .long)) (omega arith) b
             ∙ ap zeroFilled (sym (append-nil (h .whole ++ group)));
       }
+
+-- ---- a whole group of digits
+
+-- the four digits of a group, one after the other: three bytes more
+pub whole-quantum : (n p a b c d : ℕ) (o cs : List ℕ) → (a < 64) × (b < 64) × (c < 64) × (d < 64) → n % 4 ≡ 0 → n < 44 → Begun64 cs (stateOf 1 n p o)
+    → Begun64 (cs ++ digit64 a ∷ digit64 b ∷ digit64 c ∷ digit64 d ∷ [])
+    (stateOf 1 (n + 4) p (set (set (set o (n / 4 * 3) (a * 4 + b / 16)) (n / 4 * 3 + 1) (b % 16 * 16 + c / 4)) (n / 4 * 3 + 2) (c % 4 * 64 + d)))
+whole-quantum n p a b c d o cs (ha, hb, hc, hd) m near h =
+    let o₂ : List ℕ = set o (n / 4 * 3) (a * 4 + b / 16) in
+    let o₃ : List ℕ = set o₂ (n / 4 * 3 + 1) (b % 16 * 16 + c / 4) in
+    let o₄ : List ℕ = set o₃ (n / 4 * 3 + 2) (c % 4 * 64 + d) in
+    let s₁ : DhcidWords = stateOf 1 (n + 1) a o in
+    let s₂ : DhcidWords = stateOf 1 (n + 2) (b % 16) o₂ in
+    let s₃ : DhcidWords = stateOf 1 (n + 3) (c % 4) o₃ in
+    let at₂ : n / 4 * 3 ≡ (n + 1) / 4 * 3 = omega arith in
+    let at₃ : n / 4 * 3 + 1 ≡ (n + 2) / 4 * 3 + 1 = omega arith in
+    let at₄ : n / 4 * 3 + 2 ≡ (n + 3) / 4 * 3 + 2 = omega arith in
+    let x₂ : a * 4 + b / 16 ≡ a % 64 * 4 + b / 16 = omega arith in
+    let x₃ : b % 16 * 16 + c / 4 ≡ b % 16 % 16 * 16 + c / 4 = omega arith in
+    let x₄ : c % 4 * 64 + d ≡ c % 4 % 4 * 64 + d = omega arith in
+    let cs₁ : List ℕ = cs ++ digit64 a ∷ [] in
+    let cs₂ : List ℕ = cs₁ ++ digit64 b ∷ [] in
+    let cs₃ : List ℕ = cs₂ ++ digit64 c ∷ [] in
+    let h₁ : Begun64 cs₁ s₁ = first-digit (stateOf 1 n p o) s₁ a ha (omega arith) cs h refl refl m refl refl (h .group) in
+    let h₂ : Begun64 cs₂ s₂ = second-digit s₁ s₂ b hb (omega arith) cs₁ h₁ refl (omega arith) (omega arith) refl (ap₂ (set o) at₂ x₂) (h₁ .group) in
+    let h₃ : Begun64 cs₃ s₃ = third-digit s₂ s₃ c hc (omega arith) cs₂ h₂ refl (omega arith) (omega arith) refl (ap₂ (set o₂) at₃ x₃) (h₂ .group) in
+    subst (λ (l : List ℕ). Begun64 l (stateOf 1 (n + 4) p o₄))
+    (append-snoc cs₂ (digit64 c) (digit64 d ∷ []) ∙ append-snoc cs₁ (digit64 b) (digit64 c ∷ digit64 d ∷ []) ∙ append-snoc cs (digit64 a) (digit64 b ∷ digit64 c ∷ digit64 d ∷ []))
+    (fourth-digit s₃ (stateOf 1 (n + 4) p o₄) d hd (omega arith) cs₃ h₃ refl (omega arith) (omega arith) (ap₂ (set o₃) at₄ x₄) (h₃ .group))
+
+-- of the characters before them, base64 was begun, or is refused already
+quantum-text : (cs four : List ℕ) (f n n′ p : ℕ) (o o′ : List ℕ) → n < 44 → (Begun64 cs (stateOf 1 n p o) → Begun64 (cs ++ four) (stateOf 1 n′ p o′))
+    → Text64 cs (stateOf f n p o) → Text64 (cs ++ four) (stateOf f n′ p o′)
+quantum-text cs four f n n′ p o o′ near step (Text64.begun h) =
+    subst (λ (g : ℕ). Text64 (cs ++ four) (stateOf g n′ p o′)) (sym (h .form)) (Text64.begun (step (subst (λ (g : ℕ). Begun64 cs (stateOf g n p o)) (h .form) h)))
+quantum-text cs four f n n′ p o o′ near step (Text64.done h) = absurd (omega (arith, h .count))
+quantum-text cs four f n n′ p o o′ near step (Text64.refused h) =
+    Text64.refused (record { form = h .form; none = λ ds bs small long e. h .none (four ++ ds) bs small long (sym (append-assoc cs four ds) ∙ e) })
+
+-- a word of which no character is passed
+pub none-passed : (w : List ℕ) (f n p : ℕ) (o cs : List ℕ) → Text64 cs (stateOf f n p o) → Text64 (cs ++ take 0 w) (stateOf f (n + 0) p o)
+none-passed w f n p o cs h =
+    let e : n ≡ n + 0 = omega arith in
+    subst (λ (k : ℕ). Text64 (cs ++ take 0 w) (stateOf f k p o)) e (subst (λ (l : List ℕ). Text64 l (stateOf f n p o)) (sym (append-nil cs)) h)
+
+-- a word of which i characters were passed, and one group more
+pub quantum-passed : (w : List ℕ) (n i : ℕ) (o o′ t : List ℕ) → n + i < 44 → t ≡ take 4 (drop i w)
+    → ((cs : List ℕ) (p : ℕ) → Begun64 cs (stateOf 1 (n + i) p o) → Begun64 (cs ++ t) (stateOf 1 (n + i + 4) p o′))
+    → (f p : ℕ) (cs : List ℕ) → Text64 (cs ++ take i w) (stateOf f (n + i) p o) → Text64 (cs ++ take (i + 4) w) (stateOf f (n + (i + 4)) p o′)
+quantum-passed w n i o o′ t near same step f p cs h =
+    let after : n + i + 4 ≡ n + (i + 4) = omega arith in
+    let text : cs ++ take i w ++ t ≡ cs ++ take (i + 4) w =
+    append-assoc cs (take i w) t ∙ ap (λ (l : List ℕ). cs ++ l) (ap (λ (l : List ℕ). take i w ++ l) same ∙ sym (take-add i 4 w)) in
+    subst (λ (k : ℕ). Text64 (cs ++ take (i + 4) w) (stateOf f k p o′)) after
+    (subst (λ (l : List ℕ). Text64 l (stateOf f (n + i + 4) p o′)) text (quantum-text (cs ++ take i w) t f (n + i) (n + i + 4) p o o′ near (step (cs ++ take i w) p) h))
+
+next-of : (w : List ℕ) (i j k : ℕ) → j ≡ i + 1 → i < length w → take (suc k) (drop i w) ≡ getD w i 0 ∷ take k (drop j w)
+next-of w i j k e lt =
+    let e′ : suc i ≡ j = omega arith in
+    ap (take (suc k)) (drop-cons w i 0 lt) ∙ ap (λ (m : ℕ). getD w i 0 ∷ take k (drop m w)) e′
+
+all-four : {x y z v : ℕ} → Every (λ c. value64 c < 64) (x ∷ y ∷ z ∷ v ∷ []) → (value64 x < 64) × (value64 y < 64) × (value64 z < 64) × (value64 v < 64)
+all-four (Every.more hx (Every.more hy (Every.more hz (Every.more hv Every.none)))) = (hx, hy, hz, hv)
+
+module _ (w : List ℕ) (i : ℕ) {a b c d : ℕ} (fits : i + 4 ≤ length w)
+    (ea : a ≡ value64 (getD w i 0)) (eb : b ≡ value64 (getD w (i + 1) 0)) (ec : c ≡ value64 (getD w (i + 2) 0)) (ed : d ≡ value64 (getD w (i + 3) 0)) where
+  next-four : take 4 (drop i w) ≡ getD w i 0 ∷ getD w (i + 1) 0 ∷ getD w (i + 2) 0 ∷ getD w (i + 3) 0 ∷ []
+  next-four =
+      next-of w i (i + 1) 3 refl (omega arith)
+      ∙ ap (λ (l : List ℕ). getD w i 0 ∷ l)
+      (next-of w (i + 1) (i + 2) 2 (omega arith) (omega arith)
+      ∙ ap (λ (l : List ℕ). getD w (i + 1) 0 ∷ l)
+      (next-of w (i + 2) (i + 3) 1 (omega arith) (omega arith)
+      ∙ ap (λ (l : List ℕ). getD w (i + 2) 0 ∷ l) (next-of w (i + 3) (i + 4) 0 (omega arith) (omega arith))))
+
+  pub no-quantum : ((a < 64) × (b < 64) × (c < 64) × (d < 64) → ⊥) → Every (λ x. value64 x < 64) (take 4 (drop i w)) → ⊥
+  no-quantum other h =
+      let s = all-four (subst (Every (λ x. value64 x < 64)) next-four h) in
+      other (omega (arith, s .0), omega (arith, s .1), omega (arith, s .2), omega (arith, s .3))
+
+  module _ (h : (a < 64) × (b < 64) × (c < 64) × (d < 64)) where
+    pub quantum-digits : digit64 a ∷ digit64 b ∷ digit64 c ∷ digit64 d ∷ [] ≡ take 4 (drop i w)
+    quantum-digits =
+        (λ i₀. digit64 (ea i₀) ∷ digit64 (eb i₀) ∷ digit64 (ec i₀) ∷ digit64 (ed i₀) ∷ [])
+        ∙ (λ i₀.
+        digit-value (getD w i 0) (omega (arith, h .0)) i₀
+        ∷ digit-value (getD w (i + 1) 0) (omega (arith, h .1)) i₀
+        ∷ digit-value (getD w (i + 2) 0) (omega (arith, h .2)) i₀
+        ∷ digit-value (getD w (i + 3) 0) (omega (arith, h .3)) i₀
+        ∷ [])
+        ∙ sym next-four
+
+    pub digits-passed : Every (λ x. value64 x < 64) (take i w) → Every (λ x. value64 x < 64) (take (i + 4) w)
+    digits-passed before =
+        subst (Every (λ x. value64 x < 64)) (sym (take-add i 4 w ∙ ap (λ (l : List ℕ). take i w ++ l) next-four))
+        (every-append (take i w) _ before
+        (Every.more (omega (arith, h .0)) (Every.more (omega (arith, h .1)) (Every.more (omega (arith, h .2)) (Every.more (omega (arith, h .3)) Every.none)))))
 
 -- ---- what 35 bytes' base64 tells of a character
 

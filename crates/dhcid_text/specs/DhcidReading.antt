@@ -2,9 +2,10 @@
 use Prim.Native.Nat.{ℕ, _+_, _-_, _*_, _/_, _%_, _≤_, _<_}
 use mathlib.Core.Bool.{false, cond, _&&_}
 use mathlib.Core.Path.{_≡_}
+use mathlib.Core.Logic.{_⊎_}
 use mathlib.Core.List.{List, [], _∷_, _++_}
 use lib.Dec.{leb, eqb}
-use lib.ListN.{length, replicate}
+use lib.ListN.{length, replicate, take, drop}
 use Rattle.base.specs.Logic.{Every, Pairwise}
 use Rattle.dhcid_text.specs.Dhcid.{digit64, base64, joined, HexByte, SpellsDhcid}
 use Rattle.dhcid_text.specs.declared.DhcidWords.{DhcidWords}
@@ -93,6 +94,15 @@ pub data Text64 (cs : List ℕ) (s : DhcidWords) : Type 0 where
   begun : Begun64 cs s → Text64 cs s
   done : Done64 cs s → Text64 cs s
   refused : Refused64 cs s → Text64 cs s
+
+-- of the word w, which comes after count characters, the first r are the whole groups of digits that it begins with: all of them up to the last group
+-- of 35 bytes, and none where a group is begun already
+pub record Quanta64 (count : ℕ) (w : List ℕ) (r : ℕ) : Type 0 where
+  pub whole : r % 4 ≡ 0
+  pub within : r ≤ length w
+  pub place : (r ≡ 0) ⊎ ((count % 4 ≡ 0) × (count + r ≤ 44))
+  pub digits : Every (λ c. value64 c < 64) (take r w)
+  pub most : count % 4 ≡ 0 → count + r < 44 → r + 4 ≤ length w → Every (λ c. value64 c < 64) (take 4 (drop r w)) → ⊥
 
 -- ---- hexadecimal digits
 

@@ -5,8 +5,8 @@ ghost use mathlib.Core.Path.{_≡_};
 ghost use mathlib.Core.Logic.{_⊎_};
 ghost use mathlib.Core.List.{List, [], _∷_, _++_};
 ghost use Prim.Native.Nat.{ℕ, _+_, _%_, _≤_, _<_};
-ghost use lib.ListN.{length};
-ghost use Rattle.base.specs.Bytes.{overlay};
+ghost use lib.ListN.{length, take};
+ghost use Rattle.base.specs.Bytes.{overlay, tabulate};
 ghost use Rattle.base.specs.Logic.{Decides};
 ghost use Rattle.dhcid_text.specs.Dhcid as spec;
 ghost use Rattle.dhcid_text.specs.DhcidReading as reading;
@@ -43,28 +43,31 @@ const REFUSED: u8 = 4;
 // Fills up the last group of base64.
 const PAD: u8 = 61;
 
-// The value of a base64 digit; 64 for any other byte.
-fn value64(b: u8) -> u8
+// The values of all bytes as base64 digits, sixteen in a line: 0 to 63 (\x3f), and 64 (\x40) for a byte that is no digit.
+const VALUES64: [u8; 256] = *b"\
+    \x40\x40\x40\x40\x40\x40\x40\x40\x40\x40\x40\x40\x40\x40\x40\x40\
+    \x40\x40\x40\x40\x40\x40\x40\x40\x40\x40\x40\x40\x40\x40\x40\x40\
+    \x40\x40\x40\x40\x40\x40\x40\x40\x40\x40\x40\x3e\x40\x40\x40\x3f\
+    \x34\x35\x36\x37\x38\x39\x3a\x3b\x3c\x3d\x40\x40\x40\x40\x40\x40\
+    \x40\x00\x01\x02\x03\x04\x05\x06\x07\x08\x09\x0a\x0b\x0c\x0d\x0e\
+    \x0f\x10\x11\x12\x13\x14\x15\x16\x17\x18\x19\x40\x40\x40\x40\x40\
+    \x40\x1a\x1b\x1c\x1d\x1e\x1f\x20\x21\x22\x23\x24\x25\x26\x27\x28\
+    \x29\x2a\x2b\x2c\x2d\x2e\x2f\x30\x31\x32\x33\x40\x40\x40\x40\x40\
+    \x40\x40\x40\x40\x40\x40\x40\x40\x40\x40\x40\x40\x40\x40\x40\x40\
+    \x40\x40\x40\x40\x40\x40\x40\x40\x40\x40\x40\x40\x40\x40\x40\x40\
+    \x40\x40\x40\x40\x40\x40\x40\x40\x40\x40\x40\x40\x40\x40\x40\x40\
+    \x40\x40\x40\x40\x40\x40\x40\x40\x40\x40\x40\x40\x40\x40\x40\x40\
+    \x40\x40\x40\x40\x40\x40\x40\x40\x40\x40\x40\x40\x40\x40\x40\x40\
+    \x40\x40\x40\x40\x40\x40\x40\x40\x40\x40\x40\x40\x40\x40\x40\x40\
+    \x40\x40\x40\x40\x40\x40\x40\x40\x40\x40\x40\x40\x40\x40\x40\x40\
+    \x40\x40\x40\x40\x40\x40\x40\x40\x40\x40\x40\x40\x40\x40\x40\x40";
+
+// The value of a base64 digit; 64 for any other byte. The table is lent: wherever the constant is named, it is laid on the stack anew.
+fn value64(values: &[u8; 256], b: u8) -> u8
+    requires { ⌜ now values ≡ tabulate reading.value64 256 ⌝ }
     ensures { λ r. ⌜ r ≡ reading.value64 b ⌝ }
 {
-    // each test on its own, so that they become moves and not branches: which digit comes next cannot be foreseen
-    let mut value: u8 = 64;
-    if b == b'/' {
-        value = 63;
-    }
-    if b == b'+' {
-        value = 62;
-    }
-    if (b'0' <= b) & (b <= b'9') {
-        value = b + 4;
-    }
-    if (b'a' <= b) & (b <= b'z') {
-        value = b - 71;
-    }
-    if (b'A' <= b) & (b <= b'Z') {
-        value = b - 65;
-    }
-    value
+    values[b as usize]
 }
 
 // The base64 digit of a number below 64.
@@ -182,8 +185,8 @@ fn last_character(s: Sextets, b: u8) -> Sextets
 }
 
 // After one character of base64.
-fn base64_character(bytes: &mut [u8], s: Sextets, b: u8) -> Sextets
-    requires { ⌜ length (now bytes) ≡ 35 ⌝ }
+fn base64_character(values: &[u8; 256], bytes: &mut [u8], s: Sextets, b: u8) -> Sextets
+    requires { ⌜ (now values ≡ tabulate reading.value64 256) × (length (now bytes) ≡ 35) ⌝ }
     ensures { λ r. ⌜ ((cs : List ℕ) → reading.Text64 cs (reading.withBytes s (now (bytes .entry))) → reading.Text64 (cs ++ b ∷ []) (reading.withBytes r (now (bytes .exit)))) ⌝ }
 {
     let count = s.count;
@@ -196,7 +199,7 @@ fn base64_character(bytes: &mut [u8], s: Sextets, b: u8) -> Sextets
     if 47 < count {
         return no_sextets();
     }
-    let v = value64(b);
+    let v = value64(values, b);
     if 63 < v {
         return no_sextets();
     }
@@ -208,19 +211,66 @@ fn base64_character(bytes: &mut [u8], s: Sextets, b: u8) -> Sextets
     }
 }
 
-// The state after the characters of a word of base64.
+// Whether four values are base64 digits'.
+fn are_digits(a: u8, b: u8, c: u8, d: u8) -> bool
+    ensures { λ r. ⌜ Decides r ((a < 64) × (b < 64) × (c < 64) × (d < 64)) ⌝ }
+{
+    (a < 64) & (b < 64) & (c < 64) & (d < 64)
+}
+
+// Takes a whole group of base64, digits of the values `a` to `d`: three bytes.
+fn put_quantum(bytes: &mut [u8], count: u8, a: u8, b: u8, c: u8, d: u8)
+    requires { ⌜ ((a < 64) × (b < 64) × (c < 64) × (d < 64)) × (count % 4 ≡ 0) × (count < 44) × (length (now bytes) ≡ 35) ⌝ }
+    ensures { λ _. ⌜ ((cs : List ℕ) (p : ℕ) → reading.Begun64 cs (reading.stateOf 1 count p (now (bytes .entry))) → reading.Begun64 (cs ++ spec.digit64 a ∷ spec.digit64 b ∷ spec.digit64 c ∷ spec.digit64 d ∷ []) (reading.stateOf 1 (count + 4) p (now (bytes .exit)))) ⌝ }
+{
+    let at = (count / 4 * 3) as usize;
+    bytes[at] = a * 4 + b / 16;
+    bytes[at + 1] = b % 16 * 16 + c / 4;
+    bytes[at + 2] = c % 4 * 64 + d;
+}
+
+// Takes the whole groups of digits that a word begins with, up to the last group of 35 bytes: how many characters they are.
+fn read_quanta(values: &[u8; 256], bytes: &mut [u8], count: u8, word: &[u8]) -> u8
+    requires { ⌜ (now values ≡ tabulate reading.value64 256) × (length (now bytes) ≡ 35) ⌝ }
+    ensures { λ r. ⌜ reading.Quanta64 count (now (word .entry)) r × ((f p : ℕ) (cs : List ℕ) → reading.Text64 cs (reading.stateOf f count p (now (bytes .entry))) → reading.Text64 (cs ++ take r (now (word .entry))) (reading.stateOf f (count + r) p (now (bytes .exit)))) ⌝ }
+{
+    if count % 4 != 0 {
+        return 0;
+    }
+    let mut passed: u8 = 0;
+    while count + passed < 44 {
+        let at = passed as usize;
+        if word.len() - at < 4 {
+            return passed;
+        }
+        let a = value64(values, word[at]);
+        let b = value64(values, word[at + 1]);
+        let c = value64(values, word[at + 2]);
+        let d = value64(values, word[at + 3]);
+        if !are_digits(a, b, c, d) {
+            return passed;
+        }
+        put_quantum(bytes, count + passed, a, b, c, d);
+        passed += 4;
+    }
+    passed
+}
+
+// The state after the characters of a word of base64: whole groups first, for speed, and what is left one by one.
 fn base64_word(s: DhcidWords, word: &[u8]) -> DhcidWords
     ensures { λ r. ⌜ ((cs : List ℕ) → reading.Text64 cs s → reading.Text64 (cs ++ now (word .entry)) r) ⌝ }
 {
+    let values = VALUES64;
     let mut bytes = s.bytes;
+    let passed = read_quanta(&values, &mut bytes, s.count, word);
     let mut sextets = Sextets {
         form: s.form,
-        count: s.count,
+        count: s.count + passed,
         pending: s.pending,
     };
-    let mut i: usize = 0;
+    let mut i: usize = passed as usize;
     while i < word.len() {
-        let next = base64_character(&mut bytes, sextets, word[i]);
+        let next = base64_character(&values, &mut bytes, sextets, word[i]);
         sextets = next;
         i += 1;
     }

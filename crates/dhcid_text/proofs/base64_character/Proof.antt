@@ -46,8 +46,8 @@ returns-4 c =
 sextet-requires : tie.Need-sextet-requires
 sextet-requires c κs = search needs
 
-add-t10 : tie.Need-add-t10
-add-t10 c = search needs
+add-t11 : tie.Need-add-t11
+add-t11 c = search needs
 
 same-length : tie.Need-same-length
 same-length c = search needs
@@ -71,6 +71,6 @@ base64-character-spec =
     no-sextets-requires-2
     returns-4
     sextet-requires
-    add-t10
+    add-t11
     same-length
     returns-5)
