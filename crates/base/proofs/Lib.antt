@@ -1,5 +1,6 @@
 pub mod Bytes
 pub mod Fill
+pub mod Tables
 pub mod Lists
 pub mod Chunks
 pub mod Tests
