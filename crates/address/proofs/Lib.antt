@@ -1,3 +1,4 @@
 pub mod AddressLaws
 pub mod WrittenLaws
+pub mod WholeLaws
 pub mod Theorems

@@ -6,9 +6,12 @@ use text::field::Form;
 use text::field::put_part;
 use text::field::read_fields;
 ghost use mathlib.Core.Path.{_≡_};
-ghost use Prim.Native.Nat.{_+_, _≤_};
-ghost use lib.ListN.{length};
-ghost use Rattle.base.specs.Bytes.{bigEndian, overlay};
+ghost use Prim.Native.Nat.{ℕ, _+_, _*_, _≤_, _<_};
+ghost use mathlib.Core.Bool.{false};
+ghost use lib.ListN.{length, getD, replicate};
+ghost use Rattle.base.specs.Bytes.{bigEndian, overlay, tabulate};
+ghost use Rattle.base.specs.Logic.{Decides};
+ghost use Rattle.text.specs.Digits.{digitValue};
 ghost use Rattle.address.specs.Address as spec;
 ghost use Rattle.text.specs.Reading.{Answers};
 
@@ -74,17 +77,98 @@ fn be16_bytes(n: u16) -> [u8; 2]
     [((n >> 8) % 256) as u8, (n % 256) as u8]
 }
 
+fn no_aaaa() -> ReadAaaa
+    ensures { λ r. ⌜ (r .found ≡ false) × (r .bytes ≡ replicate 16 0) ⌝ }
+{
+    ReadAaaa {
+        found: false,
+        bytes: [0; 16],
+    }
+}
+
+// The value of each byte as a digit, sixteen bytes a line.
+const DIGIT_VALUE: [u8; 256] = *b"\
+    \x10\x10\x10\x10\x10\x10\x10\x10\x10\x10\x10\x10\x10\x10\x10\x10\
+    \x10\x10\x10\x10\x10\x10\x10\x10\x10\x10\x10\x10\x10\x10\x10\x10\
+    \x10\x10\x10\x10\x10\x10\x10\x10\x10\x10\x10\x10\x10\x10\x10\x10\
+    \x00\x01\x02\x03\x04\x05\x06\x07\x08\x09\x10\x10\x10\x10\x10\x10\
+    \x10\x0a\x0b\x0c\x0d\x0e\x0f\x10\x10\x10\x10\x10\x10\x10\x10\x10\
+    \x10\x10\x10\x10\x10\x10\x10\x10\x10\x10\x10\x10\x10\x10\x10\x10\
+    \x10\x0a\x0b\x0c\x0d\x0e\x0f\x10\x10\x10\x10\x10\x10\x10\x10\x10\
+    \x10\x10\x10\x10\x10\x10\x10\x10\x10\x10\x10\x10\x10\x10\x10\x10\
+    \x10\x10\x10\x10\x10\x10\x10\x10\x10\x10\x10\x10\x10\x10\x10\x10\
+    \x10\x10\x10\x10\x10\x10\x10\x10\x10\x10\x10\x10\x10\x10\x10\x10\
+    \x10\x10\x10\x10\x10\x10\x10\x10\x10\x10\x10\x10\x10\x10\x10\x10\
+    \x10\x10\x10\x10\x10\x10\x10\x10\x10\x10\x10\x10\x10\x10\x10\x10\
+    \x10\x10\x10\x10\x10\x10\x10\x10\x10\x10\x10\x10\x10\x10\x10\x10\
+    \x10\x10\x10\x10\x10\x10\x10\x10\x10\x10\x10\x10\x10\x10\x10\x10\
+    \x10\x10\x10\x10\x10\x10\x10\x10\x10\x10\x10\x10\x10\x10\x10\x10\
+    \x10\x10\x10\x10\x10\x10\x10\x10\x10\x10\x10\x10\x10\x10\x10\x10";
+
+// The table, to be taken once before a loop: the machine builds it on the stack wherever it is asked for.
+fn digit_values() -> [u8; 256]
+    ensures { λ r. ⌜ r ≡ tabulate digitValue 256 ⌝ }
+{
+    DIGIT_VALUE
+}
+
+// Whether a colon stands behind each group but the last, where each has four digits.
+fn has_colons(word: &[u8]) -> bool
+    requires { ⌜ length (now word) ≡ 39 ⌝ }
+    ensures { λ r. ⌜ Decides r ((j : ℕ) → j < 7 → getD (now (word .entry)) (5 * j + 4) 0 ≡ 58) ⌝ }
+{
+    let mut j: usize = 0;
+    while j < 7 {
+        if word[5 * j + 4] != b':' {
+            return false;
+        }
+        j += 1;
+    }
+    true
+}
+
+// An AAAA in 39 bytes, as it is written: each group has four digits, or they would be fewer bytes. So each byte's two digits stand at a known place,
+// and a table gives their values with no branch on what they are.
+fn read_whole(word: &[u8]) -> ReadAaaa
+    requires { ⌜ length (now word) ≡ 39 ⌝ }
+    ensures { λ r. ⌜ Answers (spec.SpellsAAAA (now (word .entry))) (r .found) (r .bytes) ⌝ }
+{
+    if !has_colons(word) {
+        return no_aaaa();
+    }
+    let values = digit_values();
+    let mut bytes = [0u8; 16];
+    let mut k: usize = 0;
+    while k < 16 {
+        let at = 2 * k + k / 2;
+        let high = values[word[at] as usize];
+        let low = values[word[at + 1] as usize];
+        if 15 < high {
+            return no_aaaa();
+        }
+        if 15 < low {
+            return no_aaaa();
+        }
+        bytes[k] = high * 16 + low;
+        k += 1;
+    }
+    ReadAaaa {
+        found: true,
+        bytes: bytes,
+    }
+}
+
 pub fn read_aaaa(word: &[u8]) -> ReadAaaa
     ensures { λ r. ⌜ Answers (spec.SpellsAAAA (now (word .entry))) (r .found) (r .bytes) ⌝ }
 {
-    let numbers = read_fields(word, GROUPS);
-    let mut bytes = [0u8; 16];
-    if !numbers.found {
-        return ReadAaaa {
-            found: false,
-            bytes: bytes,
-        };
+    if word.len() == 39 {
+        return read_whole(word);
     }
+    let numbers = read_fields(word, GROUPS);
+    if !numbers.found {
+        return no_aaaa();
+    }
+    let mut bytes = [0u8; 16];
     let values = numbers.values;
     let mut i: usize = 0;
     while i < 8 {

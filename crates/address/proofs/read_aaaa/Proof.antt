@@ -5,12 +5,13 @@ use native.Mathlib.Omega.{arith}
 use borrow.Author.Needs.{needs}
 use borrow.Author.Tests.{not-true, not-false}
 use lib.ListN.{length, take}
-use Rattle.text.specs.Reading.{yes-read, none-read}
+use Rattle.text.specs.Reading.{yes-read}
 use Rattle.base.specs.Bytes.{inBytes}
 use Rattle.base.proofs.Bytes.{in-bytes-more}
 use lib.Seq.{take-all}
 use Rattle.text.proofs.ScanLaws.{was-found, not-found}
 use Rattle.address.proofs.AddressLaws.{groups, groups-usable, aaaa-fields, aaaa-read}
+use Rattle.address.proofs.WholeLaws.{none-spelled}
 use Rattle.address.proofs.read_aaaa.Statement.{statement}
 use Rattle.address.proofs.read_aaaa.Tie as tie
 
@@ -20,14 +21,23 @@ Inv-loop word bytes₀ values i₀ bytes i = (i ≤ 8) × (length bytes ≡ 16) 
 abbrev μ-loop : tie.MeasureT-loop
 μ-loop word bytes₀ values i₀ bytes i = 8 - i
 
+read-whole-requires : tie.Need-read-whole-requires Inv-loop μ-loop
+read-whole-requires c κs = c .if1 .taken
+
+returns : tie.Need-returns Inv-loop μ-loop
+returns c = c .read-whole .ensures
+
 read-fields-requires : tie.Need-read-fields-requires Inv-loop μ-loop
 read-fields-requires c κs = groups-usable
 
-returns : tie.Need-returns Inv-loop μ-loop
-returns c =
-    let w = now (c .before .before .before .before .args .word) in
-    let r = c .before .before .read-fields in
-    none-read refl (λ bs s. not-found groups w (r .result) (r .ensures) (not-true _ (c .if1 .taken)) (s .numbers) (aaaa-fields w bs s)) refl
+no-aaaa-requires : tie.Need-no-aaaa-requires Inv-loop μ-loop
+no-aaaa-requires c κs = search needs
+
+returns-2 : tie.Need-returns-2 Inv-loop μ-loop
+returns-2 c =
+    let w = now (c .before .before .before .before .before .before .args .word) in
+    let r = c .before .before .before .read-fields in
+    none-spelled w (c .no-aaaa .ensures) (λ bs s. not-found groups w (r .result) (r .ensures) (not-true _ (c .before .if2 .taken)) (s .numbers) (aaaa-fields w bs s))
 
 loop-holds : tie.Need-loop-holds Inv-loop μ-loop
 unfolding inBytes
@@ -70,13 +80,13 @@ loop-again c =
       in-bytes-more 2 values (l .bytes) _ _ (l .i) (c .before .put .ensures) (c .before .before .before .before .be16-bytes .ensures) (l .inv .2) (omega arith) (omega arith),
     )
 
-returns-2 : tie.Need-returns-2 Inv-loop μ-loop
-returns-2 c =
-    let w = now (c .before .before .before .before .before .before .before .args .word) in
+returns-3 : tie.Need-returns-3 Inv-loop μ-loop
+returns-3 c =
+    let w = now (c .before .before .before .before .before .before .before .before .args .word) in
     let r = c .before .before .before .before .before .read-fields in
     let l = c .before .loop in
     let eight : length (r .result .values) ≡ 8 = search needs in
-    let y = was-found groups w (r .result) (r .ensures) (not-false _ (c .before .before .before .if1 .left)) in
+    let y = was-found groups w (r .result) (r .ensures) (not-false _ (c .before .before .before .if2 .left)) in
     yes-read refl
     (aaaa-read w (r .result) _ y
     (sym (take-all (2 * l .i) (l .bytes) (omega arith)) ∙ l .inv .2 ∙ ap (inBytes 2) (take-all (l .i) (r .result .values) (omega arith))))
@@ -87,8 +97,11 @@ read-aaaa-spec =
     (tie.spec
     Inv-loop
     μ-loop
-    read-fields-requires
+    read-whole-requires
     returns
+    read-fields-requires
+    no-aaaa-requires
+    returns-2
     loop-holds
     mul-be16-bytes
     array-read-be16-bytes
@@ -100,4 +113,4 @@ read-aaaa-spec =
     add-i
     loop-less
     loop-again
-    returns-2)
+    returns-3)
