@@ -1,10 +1,10 @@
 // The words of a listing's entry, one at a time, and how the entry ends. A loop passes one piece at each turn, and the runs of a word and of a
 // comment are loops of their own, so each byte is looked at twice at most.
 ghost use mathlib.Core.Path.{_≡_};
-ghost use Prim.Native.Nat.{_+_, _≤_};
-ghost use mathlib.Core.Bool.{true};
-ghost use lib.ListN.{length, take, drop};
-ghost use Rattle.base.specs.Logic.{Every, Decides};
+ghost use Prim.Native.Nat.{_+_, _≤_, _<_};
+ghost use mathlib.Core.Bool.{false, cond};
+ghost use lib.Dec.{ltb};
+ghost use lib.ListN.{length, getD};
 ghost use Rattle.grammar.specs.Listing.{kindOf, isWordByte, isCommentByte};
 ghost use Rattle.words.specs.NextIs.{kindMeant, PassTo, RunTo, NextIs};
 
@@ -48,35 +48,40 @@ fn is_comment_byte(b: u8) -> bool
 }
 
 // How many bytes of a word are looked at together.
-const CHUNK: usize = 32;
+const CHUNK: u8 = 32;
 
-// Are the bytes of the chunk from `at` on all a word's? With no way out before the last, so that they are taken at once.
-fn is_word_chunk(text: &[u8], at: usize) -> bool
-    requires { ⌜ at + 32 ≤ length (now text) ⌝ }
-    ensures { λ r. ⌜ Decides r (Every (λ b. isWordByte b ≡ true) (take 32 (drop at (now (text .entry))))) ⌝ }
+// The index, but past the chunk where the byte is a word's.
+fn stop_at(b: u8, i: u8) -> u8
+    ensures { λ r. ⌜ r ≡ cond (isWordByte b) 32 i ⌝ }
 {
-    let mut all = true;
-    let mut i: usize = 0;
-    while i < CHUNK {
-        all = all & is_word_byte(text[at + i]);
-        i += 1;
-    }
-    all
-}
-
-// Past the whole chunks of a word from `at` on.
-fn past_chunks(text: &[u8], at: usize) -> usize
-    requires { ⌜ at ≤ length (now text) ⌝ }
-    ensures { λ r. ⌜ PassTo isWordByte (now (text .entry)) at r ⌝ }
-{
-    let mut i = at;
-    while CHUNK <= text.len() - i {
-        if !is_word_chunk(text, i) {
-            return i;
-        }
-        i += CHUNK;
+    if is_word_byte(b) {
+        return CHUNK;
     }
     i
+}
+
+fn lesser(a: u8, b: u8) -> u8
+    ensures { λ r. ⌜ r ≡ cond (ltb a b) a b ⌝ }
+{
+    if a < b {
+        return a;
+    }
+    b
+}
+
+// How many bytes of the chunk from `at` on are a word's, up to the first that is not: the least index of such a byte, with no way out before the last, so
+// that all are taken at once and where a word ends need not be guessed.
+fn word_lead(text: &[u8], at: usize) -> u8
+    requires { ⌜ at + 32 ≤ length (now text) ⌝ }
+    ensures { λ r. ⌜ (r ≤ 32) × PassTo isWordByte (now (text .entry)) at (at + r) × (r < 32 → isWordByte (getD (now (text .entry)) (at + r) 0) ≡ false) ⌝ }
+{
+    let mut first = CHUNK;
+    let mut i: u8 = 0;
+    while i < CHUNK {
+        first = lesser(stop_at(text[at + i as usize], i), first);
+        i += 1;
+    }
+    first
 }
 
 // Where the longest run of word bytes from `at` on ends.
@@ -84,7 +89,14 @@ fn word_end(text: &[u8], at: usize) -> usize
     requires { ⌜ at ≤ length (now text) ⌝ }
     ensures { λ r. ⌜ RunTo isWordByte (now (text .entry)) at r ⌝ }
 {
-    let mut i = past_chunks(text, at);
+    let mut i = at;
+    while CHUNK as usize <= text.len() - i {
+        let lead = word_lead(text, i);
+        if lead < CHUNK {
+            return i + lead as usize;
+        }
+        i += CHUNK as usize;
+    }
     while i < text.len() {
         if !is_word_byte(text[i]) {
             return i;
