@@ -1,12 +1,17 @@
--- The type of a record, by what `matches` says of a word; and the head of an entry, by its first word. Assumes nothing.
+-- The type of a record, by the letters of a word; and the head of an entry, by its first word. Assumes nothing.
 use Prim.Native.Nat.{ℕ, _-_, _≤_}
-use mathlib.Core.Bool.{Bool}
-use mathlib.Core.Path.{_≡_, refl, ap, _∙_}
+use mathlib.Core.Bool.{Bool, true, false, true≢false, _&&_}
+use mathlib.Core.Path.{_≡_, refl, sym, ap, subst, _∙_}
 use mathlib.Core.List.{List, [], _∷_}
 use mathlib.Core.Option.{Option, none, some}
 use native.Mathlib.Omega.{arith}
-use lib.ListN.{length, take, drop}
-use Rattle.base.specs.Bytes.{ascii}
+use lib.Dec.{eqb}
+use lib.ListN.{length, take, drop, getD, length-map}
+use lib.Seq.{ext-getD}
+use Rattle.base.specs.Bytes.{ascii, eqBytes, tabulate}
+use Rattle.base.specs.Logic.{Decides}
+use Rattle.base.proofs.Fill.{length-tabulate, getD-tabulate}
+use Rattle.base.proofs.Tests.{no-by, eqBytes-true, eq-eqBytes}
 use Rattle.name.specs.Label.{isUpper, lower}
 use Rattle.name.specs.Name.{canonical}
 use Rattle.grammar.specs.Listing.{RecordType, mnemonic, EitherCase}
@@ -17,6 +22,56 @@ use Rattle.words.specs.NextIs.{WordAt}
 use Rattle.entry.specs.Parts.{typeNumber, wordsAt, HeadAt}
 use Rattle.entry.specs.declared.head.Head.{Head}
 use Rattle.entry.proofs.NextLaws.{word-words, word-ends}
+
+-- ---- a short word, byte by byte
+
+-- a word of another length is not the one looked for
+pub other-length : (w v : List ℕ) → (length w ≡ length v → ⊥) → Decides false (canonical w ≡ v)
+unfolding canonical
+other-length w v other = no-by (λ e. other (sym (length-map w lower) ∙ ap length e))
+
+spells : (w v : List ℕ) (b : Bool) → b ≡ eqBytes (canonical w) v → Decides b (canonical w ≡ v)
+spells w v b e = record { if-true = λ t. eqBytes-true (canonical w) v (sym e ∙ t); if-false = λ f same. true≢false (sym (eq-eqBytes (canonical w) v same) ∙ sym e ∙ f) }
+
+-- a list of n bytes is that of what stands at each index
+apart : (w : List ℕ) (n : ℕ) → length w ≡ n → w ≡ tabulate (λ i. getD w i 0) n
+apart w n e =
+    ext-getD 0 w (tabulate (λ i. getD w i 0) n) (e ∙ sym (length-tabulate (λ i. getD w i 0) n))
+    (λ i lt. sym (getD-tabulate (λ k. getD w k 0) n i (omega arith)))
+
+by-letters : (w v : List ℕ) (n : ℕ) (b : Bool) → length w ≡ n → b ≡ eqBytes (canonical (tabulate (λ i. getD w i 0) n)) v → Decides b (canonical w ≡ v)
+by-letters w v n b e is = subst (λ (l : List ℕ). Decides b (canonical l ≡ v)) (sym (apart w n e)) (spells (tabulate (λ i. getD w i 0) n) v b is)
+
+abbrev letter : List ℕ → ℕ → ℕ → Bool
+letter w i b = eqb (lower (getD w i 0)) b
+
+grouped : (a b c d e : Bool) → (a && b && c && d && e) ≡ (a && (b && (c && (d && (e && true)))))
+grouped false b c d e = refl
+grouped true false c d e = refl
+grouped true true false d e = refl
+grouped true true true false e = refl
+grouped true true true true false = refl
+grouped true true true true true = refl
+
+pub one-letter : (w : List ℕ) (x0 a : ℕ) → length w ≡ 1 → x0 ≡ lower (getD w 0 0)
+    → Decides (eqb x0 a) (canonical w ≡ a ∷ [])
+unfolding tabulate canonical eqBytes
+one-letter w x0 a long e0 = by-letters w (a ∷ []) 1 (eqb x0 a) long ((λ k. eqb (e0 k) a) ∙ grouped true true true true (letter w 0 a))
+
+pub two-letters : (w : List ℕ) (x0 x1 a b : ℕ) → length w ≡ 2 → x0 ≡ lower (getD w 0 0) → x1 ≡ lower (getD w 1 0)
+    → Decides (eqb x0 a && eqb x1 b) (canonical w ≡ a ∷ b ∷ [])
+unfolding tabulate canonical eqBytes
+two-letters w x0 x1 a b long e0 e1 = by-letters w (a ∷ b ∷ []) 2 (eqb x0 a && eqb x1 b) long ((λ k. eqb (e0 k) a && eqb (e1 k) b) ∙ grouped true true true (letter w 0 a) (letter w 1 b))
+
+pub four-letters : (w : List ℕ) (x0 x1 x2 x3 a b c d : ℕ) → length w ≡ 4 → x0 ≡ lower (getD w 0 0) → x1 ≡ lower (getD w 1 0) → x2 ≡ lower (getD w 2 0) → x3 ≡ lower (getD w 3 0)
+    → Decides (eqb x0 a && eqb x1 b && eqb x2 c && eqb x3 d) (canonical w ≡ a ∷ b ∷ c ∷ d ∷ [])
+unfolding tabulate canonical eqBytes
+four-letters w x0 x1 x2 x3 a b c d long e0 e1 e2 e3 = by-letters w (a ∷ b ∷ c ∷ d ∷ []) 4 (eqb x0 a && eqb x1 b && eqb x2 c && eqb x3 d) long ((λ k. eqb (e0 k) a && eqb (e1 k) b && eqb (e2 k) c && eqb (e3 k) d) ∙ grouped true (letter w 0 a) (letter w 1 b) (letter w 2 c) (letter w 3 d))
+
+pub five-letters : (w : List ℕ) (x0 x1 x2 x3 x4 a b c d e : ℕ) → length w ≡ 5 → x0 ≡ lower (getD w 0 0) → x1 ≡ lower (getD w 1 0) → x2 ≡ lower (getD w 2 0) → x3 ≡ lower (getD w 3 0) → x4 ≡ lower (getD w 4 0)
+    → Decides (eqb x0 a && eqb x1 b && eqb x2 c && eqb x3 d && eqb x4 e) (canonical w ≡ a ∷ b ∷ c ∷ d ∷ e ∷ [])
+unfolding tabulate canonical eqBytes
+five-letters w x0 x1 x2 x3 x4 a b c d e long e0 e1 e2 e3 e4 = by-letters w (a ∷ b ∷ c ∷ d ∷ e ∷ []) 5 (eqb x0 a && eqb x1 b && eqb x2 c && eqb x3 d && eqb x4 e) long ((λ k. eqb (e0 k) a && eqb (e1 k) b && eqb (e2 k) c && eqb (e3 k) d && eqb (e4 k) e) ∙ grouped (letter w 0 a) (letter w 1 b) (letter w 2 c) (letter w 3 d) (letter w 4 e))
 
 -- ---- a word that is a type, the class, or neither
 

@@ -3,12 +3,15 @@ use crate::NO_TYPE;
 use crate::TYPE_A;
 use crate::TYPE_AAAA;
 use crate::TYPE_DHCID;
-use name::wire::matches;
+use name::byte::lower;
 use words::Next;
 use words::next_word;
 ghost use mathlib.Core.Path.{_≡_};
+ghost use mathlib.Core.List.{[], _∷_};
 ghost use Prim.Native.Nat.{_≤_};
 ghost use lib.ListN.{length};
+ghost use Rattle.base.specs.Logic.{Decides};
+ghost use Rattle.name.specs.Name.{canonical};
 ghost use Rattle.grammar.proofs.Content.{typeOf, typed, headOf};
 ghost use Rattle.entry.specs.Parts as spec;
 
@@ -19,17 +22,61 @@ pub(crate) struct Head {
     pub inside: bool,
 }
 
+// The class and the types, in any case, byte by byte: a call for words of any length costs more than so short a word.
+fn is_in(word: &[u8]) -> bool
+    ensures { λ r. ⌜ Decides r (canonical (now (word .entry)) ≡ 105 ∷ 110 ∷ []) ⌝ }
+{
+    if word.len() != 2 {
+        return false;
+    }
+    (lower(word[0]) == b'i') & (lower(word[1]) == b'n')
+}
+
+fn is_a(word: &[u8]) -> bool
+    ensures { λ r. ⌜ Decides r (canonical (now (word .entry)) ≡ 97 ∷ []) ⌝ }
+{
+    if word.len() != 1 {
+        return false;
+    }
+    lower(word[0]) == b'a'
+}
+
+fn is_aaaa(word: &[u8]) -> bool
+    ensures { λ r. ⌜ Decides r (canonical (now (word .entry)) ≡ 97 ∷ 97 ∷ 97 ∷ 97 ∷ []) ⌝ }
+{
+    if word.len() != 4 {
+        return false;
+    }
+    (lower(word[0]) == b'a')
+        & (lower(word[1]) == b'a')
+        & (lower(word[2]) == b'a')
+        & (lower(word[3]) == b'a')
+}
+
+fn is_dhcid(word: &[u8]) -> bool
+    ensures { λ r. ⌜ Decides r (canonical (now (word .entry)) ≡ 100 ∷ 104 ∷ 99 ∷ 105 ∷ 100 ∷ []) ⌝ }
+{
+    if word.len() != 5 {
+        return false;
+    }
+    (lower(word[0]) == b'd')
+        & (lower(word[1]) == b'h')
+        & (lower(word[2]) == b'c')
+        & (lower(word[3]) == b'i')
+        & (lower(word[4]) == b'd')
+}
+
 // The type that a word names.
 fn type_of(word: &[u8]) -> u8
     ensures { λ r. ⌜ r ≡ spec.typeNumber (typeOf (now (word .entry))) ⌝ }
 {
-    if matches(word, b"a") {
+    if is_a(word) {
         return TYPE_A;
     }
-    if matches(word, b"aaaa") {
+    if is_aaaa(word) {
         return TYPE_AAAA;
     }
-    if matches(word, b"dhcid") {
+    if is_dhcid(word) {
         return TYPE_DHCID;
     }
     NO_TYPE
@@ -70,7 +117,7 @@ pub(crate) fn read(text: &[u8], at: usize, inside: bool) -> Head
             inside: after,
         } => {
             let word = &text[start..end];
-            if matches(word, b"in") {
+            if is_in(word) {
                 return next_type(text, end, after);
             }
             Head {

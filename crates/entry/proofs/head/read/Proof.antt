@@ -33,35 +33,32 @@ part-word-end c =
     let h = word-is (a .text .now) (a .at) (a .inside) (n .result) (n .ensures) (c .before .start .given .1) in
     omega (arith, h .some, h .within)
 
-slice-aggregate-matches : tie.Need-slice-aggregate-matches
-slice-aggregate-matches c = search needs
-
-matches-requires : tie.Need-matches-requires
-matches-requires c κs = search needs
+is-in-requires : tie.Need-is-in-requires
+is-in-requires c κs = search needs
 
 next-type-requires : tie.Need-next-type-requires
 next-type-requires c κs =
-    let a = c .before .before .before .before .before .before .before .before .before .args in
-    let n = c .before .before .before .before .before .before .before .next-word in
-    let h = word-is (a .text .now) (a .at) (a .inside) (n .result) (n .ensures) (c .before .before .before .before .before .start .given .1) in
+    let a = c .before .before .before .before .before .before .before .before .args in
+    let n = c .before .before .before .before .before .before .next-word in
+    let h = word-is (a .text .now) (a .at) (a .inside) (n .result) (n .ensures) (c .before .before .before .before .start .given .1) in
     h .within
 
 returns : tie.Need-returns
 returns c =
-    let a = c .before .before .before .before .before .before .before .before .before .before .args in
-    let n = c .before .before .before .before .before .before .before .before .next-word in
-    let h = word-is (a .text .now) (a .at) (a .inside) (n .result) (n .ensures) (c .before .before .before .before .before .before .start .given .1) in
-    head-after-class (a .text .now) (a .at) (a .inside) h (c .next-type .result) (c .before .before .matches .ensures .if-true (c .before .if1 .taken)) (c .next-type .ensures)
+    let a = c .before .before .before .before .before .before .before .before .before .args in
+    let n = c .before .before .before .before .before .before .before .next-word in
+    let h = word-is (a .text .now) (a .at) (a .inside) (n .result) (n .ensures) (c .before .before .before .before .before .start .given .1) in
+    head-after-class (a .text .now) (a .at) (a .inside) h (c .next-type .result) (c .before .before .is-in .ensures .if-true (c .before .if1 .taken)) (c .next-type .ensures)
 
 type-of-requires : tie.Need-type-of-requires
 type-of-requires c κs = search needs
 
 returns-2 : tie.Need-returns-2
 returns-2 c =
-    let a = c .before .before .before .before .before .before .before .before .before .before .args in
-    let n = c .before .before .before .before .before .before .before .before .next-word in
-    let h = word-is (a .text .now) (a .at) (a .inside) (n .result) (n .ensures) (c .before .before .before .before .before .before .start .given .1) in
-    head-no-class (a .text .now) (a .at) (a .inside) h (c .type-of .result) (c .before .before .matches .ensures .if-false (c .before .if1 .left)) (c .type-of .ensures)
+    let a = c .before .before .before .before .before .before .before .before .before .args in
+    let n = c .before .before .before .before .before .before .before .next-word in
+    let h = word-is (a .text .now) (a .at) (a .inside) (n .result) (n .ensures) (c .before .before .before .before .before .start .given .1) in
+    head-no-class (a .text .now) (a .at) (a .inside) h (c .type-of .result) (c .before .before .is-in .ensures .if-false (c .before .if1 .left)) (c .type-of .ensures)
 
 returns-3 : tie.Need-returns-3
 returns-3 c =
@@ -78,8 +75,7 @@ read-spec =
     sub-word
     part-word-start
     part-word-end
-    slice-aggregate-matches
-    matches-requires
+    is-in-requires
     next-type-requires
     returns
     type-of-requires
