@@ -2,7 +2,6 @@ pub mod Bytes
 pub mod Fill
 pub mod Tables
 pub mod Lists
-pub mod Chunks
 pub mod Tests
 pub mod SetLaws
 pub mod Theorems
