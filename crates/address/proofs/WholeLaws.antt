@@ -12,7 +12,7 @@ use Rattle.base.specs.Bytes.{bigEndian, inBytes, tabulate}
 use Rattle.base.specs.Logic.{Every, Pairwise}
 use Rattle.base.proofs.Fill.{length-tabulate, getD-tabulate}
 use Rattle.base.proofs.Lists.{every-at}
-use Rattle.base.proofs.Tables.{looked-up}
+use Rattle.base.proofs.Fill.{looked-up}
 use Rattle.text.specs.Digits.{digitValue, value, separated}
 use Rattle.text.specs.Reading.{Answers, none-read}
 use Rattle.text.proofs.PartLaws.{total, total-separated}

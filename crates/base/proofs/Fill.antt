@@ -52,6 +52,10 @@ getD-tabulate f (suc n) i lt =
     (λ below. List·getD-append (tabulate f n) (f n ∷ []) 0 i (omega (arith, length-tabulate f n)) ∙ getD-tabulate f n i below)
     (eq-or-lt-of-le below-suc)
 
+-- a table that is f 0, f 1 and so on, n of them, looked up at i: that it is this list is `refl`, by computing
+pub looked-up : (f : ℕ → ℕ) (n : ℕ) {table : List ℕ} → table ≡ tabulate f n → (i : ℕ) → i < n → getD table i 0 ≡ f i
+looked-up f n e i lt = ap (λ (l : List ℕ). getD l i 0) e ∙ getD-tabulate f n i lt
+
 -- ---- a loop that writes the list `from` into `to`, from index `at` on, one element a turn
 
 -- d is `to` with the first i elements of `from` written

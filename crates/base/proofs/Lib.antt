@@ -1,6 +1,5 @@
 pub mod Bytes
 pub mod Fill
-pub mod Tables
 pub mod Lists
 pub mod Tests
 pub mod SetLaws
