@@ -5,4 +5,5 @@ pub mod Tests
 pub mod SetLaws
 pub mod Theorems
 pub mod OrderLaws
+pub mod AnswerLaws
 pub mod DhcidLaws

@@ -91,6 +91,11 @@ every-at [] h i lt = absurd (omega arith)
 every-at (a ∷ l) (Every.more p h) zero lt = p
 every-at (a ∷ l) (Every.more p h) (suc i) lt = every-at l h i (omega arith)
 
+-- and what holds at every index holds of each
+pub every-from : {P : ℕ → Type 0} (l : List ℕ) → ((i : ℕ) → P (getD l i 0)) → Every P l
+every-from [] h = Every.none
+every-from (a ∷ l) h = Every.more (h 0) (every-from l (λ i. h (suc i)))
+
 -- one relation for another, of each two
 pub pairwise-by : {A B : Type 0} {R S : A → B → Type 0} → ((a : A) (b : B) → R a b → S a b) → {l : List A} {m : List B} → Pairwise R l m → Pairwise S l m
 pairwise-by g Pairwise.none = Pairwise.none

@@ -1,7 +1,6 @@
 pub mod VerdictLaws
 pub mod CheckLaws
 pub mod StepLaws
-pub mod AnswerLaws
 pub mod SpellingLaws
 pub mod GivingLaws
 pub mod NextLaws

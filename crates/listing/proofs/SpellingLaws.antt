@@ -11,7 +11,7 @@ use Rattle.grammar.specs.Outcome.{Outcome, accepted, refused, Checked}
 use Rattle.grammar.proofs.Reader.{Verdict, right, wrong, read, check}
 use Rattle.grammar.proofs.ReaderLaws.{Comes, spelled, faulted, comes, checks, checked}
 use Rattle.listing.specs.Reading.{limit, counted}
-use Rattle.listing.proofs.AnswerLaws.{accepted≢refused}
+use Rattle.base.proofs.AnswerLaws.{accepted≢refused}
 
 -- a text that comes to a verdict
 comes-to : (t : List ℕ) (v : Verdict) → read t ≡ v → Comes t v

@@ -39,10 +39,6 @@ module _ (m : List ℕ) (j : RecordType) where
   field-some bit none = omega arith
   field-some bit (some x) = omega arith
 
-  field-most : (o : Option (List ℕ)) → length (recordIf m j o) ≤ 1
-  field-most none = omega arith
-  field-most (some x) = omega arith
-
   field-data : (o : Option (List ℕ)) → dataOf m j (recordIf m j o) ≡ listed o
   field-data none = data-none m j
   field-data (some x) = data-one m j (record { owner = m; rtype = j; rdata = x }) (of-is m j (record { owner = m; rtype = j; rdata = x }) refl refl)
@@ -108,11 +104,8 @@ module _ (e : TableEntry) where
       let z = recordIf (e .name) RecordType.DHCID (e .holder) in
       omega (arith, length-append (x ++ y) z, length-append x y)
 
-  -- at least one where a flag is set, and at most three
+  -- at least one where a flag is set
   pub entry-some : 1 ≤ flags e → 1 ≤ length (entryRecords e)
   unfolding flags
   entry-some h =
       omega (arith, length-entry, field-some (e .name) RecordType.A 1 (e .a), field-some (e .name) RecordType.AAAA 2 (e .aaaa), field-some (e .name) RecordType.DHCID 4 (e .holder))
-
-  pub entry-most : length (entryRecords e) ≤ 3
-  entry-most = omega (arith, length-entry, field-most (e .name) RecordType.A (e .a), field-most (e .name) RecordType.AAAA (e .aaaa), field-most (e .name) RecordType.DHCID (e .holder))

@@ -8,6 +8,7 @@ pub mod EntryRecordLaws
 pub mod RoundLaws
 pub mod SameLaws
 pub mod WrittenLaws
+pub mod LengthLaws
 pub mod WritingLaws
 pub mod LoadingLaws
 pub mod TripLaws

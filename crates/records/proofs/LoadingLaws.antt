@@ -10,6 +10,7 @@ use Rattle.base.specs.Bytes.{overlay}
 use Rattle.base.specs.Order.{AllHold, FirstFault}
 use Rattle.base.specs.declared.Answer.{Answer}
 use Rattle.base.specs.declared.Answer.the-variants.{Accepted, Refused}
+use Rattle.base.proofs.AnswerLaws.{accepted≢refused}
 use Rattle.base.proofs.Theorems.{one-fault, no-fault}
 use Rattle.grammar.specs.Listing.{ResourceRecord, Spells}
 use Rattle.grammar.specs.Faults.{WordFault, Faulty}
@@ -63,10 +64,10 @@ module _ (limit places : ℕ) (t area : List ℕ) where
     by-outcome {o} c (Loads.faulty {n = n} d f a e) = subst (λ (p : Outcome). Answers p r left) (one-check limit t _ o d c) (inl (n, f, a, e))
     by-outcome {o} c (Loads.loaded d h a e) = subst (λ (p : Outcome). Answers p r left) (one-check limit t _ o d c) (inr (h, a, e))
 
-    pub unloaded : Loads limit places t area r left → 0 < number r → left ≡ area
-    unloaded (Loads.not-read d a e) h = e
-    unloaded (Loads.faulty d f a e) h = e
-    unloaded (Loads.loaded d k a e) h = absurd (omega (arith, ap number a))
+    pub unloaded : Loads limit places t area r left → (n at : ℕ) → r ≡ Refused n at → left ≡ area
+    unloaded (Loads.not-read d a e) n at h = e
+    unloaded (Loads.faulty d f a e) n at h = e
+    unloaded (Loads.loaded d k a e) n at h = absurd (accepted≢refused (sym a ∙ h))
 
     -- records that pass the tests are in the table that was loaded
     pub was-loaded : {rs : List ResourceRecord} → Checked limit t (accepted rs) → AllHold (loadTests places rs area) → Loads limit places t area r left

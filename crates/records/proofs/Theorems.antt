@@ -7,13 +7,14 @@ use Rattle.base.specs.Answer.{number, value}
 use Rattle.base.specs.Bytes.{overlay}
 use Rattle.base.specs.Logic.{Every}
 use Rattle.base.specs.declared.Answer.{Answer}
-use Rattle.base.specs.declared.Answer.the-variants.{Accepted}
+use Rattle.base.specs.declared.Answer.the-variants.{Accepted, Refused}
 use Rattle.grammar.specs.Listing.{RecordType, ResourceRecord, Spells}
 use Rattle.slots.specs.Form.{slotSize, Sound}
 use Rattle.records.specs.Written.{tableRecords, listingOf}
 use Rattle.records.specs.Gathered.{dataOf, owners, tableOf}
 use Rattle.records.specs.Calls.{Writes, Loads}
-use Rattle.records.proofs.WrittenLaws.{listing-spells, listing-most}
+use Rattle.records.proofs.WrittenLaws.{listing-spells}
+use Rattle.records.proofs.LengthLaws.{listing-most}
 use Rattle.records.proofs.WritingLaws.{one-writing, unwritten, room-accepts, was-written}
 use Rattle.records.proofs.LoadingLaws.{one-loading, unloaded, filled}
 use Rattle.records.proofs.TripLaws.{round-trip, loaded-is, written-back}
@@ -25,17 +26,17 @@ module _ (places : ℕ) (b : List ℕ) where
   pub written-spells : (s : Sound places b) → Every (λ x. x < 256) b → Spells (listingOf (s .table)) (tableRecords (s .table))
   written-spells s bytes = listing-spells places (s .table) b (s .slots) bytes
 
-  -- it has at most 930 bytes for each name
-  pub written-short : (s : Sound places b) → Every (λ x. x < 256) b → length (listingOf (s .table)) ≤ 930 * length (s .table)
-  written-short s bytes = listing-most places (s .table) b (s .slots) bytes
+  -- it has at most 883 bytes for each name, 273 for its A, 300 for its AAAA and 310 for its DHCID
+  pub written-short : (s : Sound places b) → length (listingOf (s .table)) ≤ 883 * length (s .table)
+  written-short s = listing-most (s .table) (s .slots .each)
 
   -- the promise determines the answer and what the area holds
   pub one-write : (out : List ℕ) (r q : Answer) (left also : List ℕ) → Writes places b out r left → Writes places b out q also → (r ≡ q) × (left ≡ also)
   one-write out r q left also w v = one-writing places b out w v
 
   -- a refused write leaves every byte of the area as it was
-  pub refused-write : (out : List ℕ) (r : Answer) (left : List ℕ) → Writes places b out r left → 0 < number r → left ≡ out
-  refused-write out r left w h = unwritten places b out w h
+  pub refused-write : (out : List ℕ) (r : Answer) (left : List ℕ) → Writes places b out r left → (n at : ℕ) → r ≡ Refused n at → left ≡ out
+  refused-write out r left w = unwritten places b out w
 
   -- a sound table is written to every output that is long enough
   pub enough-room : (s : Sound places b) (out : List ℕ) (r : Answer) (left : List ℕ) → length (listingOf (s .table)) ≤ length out → Writes places b out r left → number r ≡ 0
@@ -54,8 +55,8 @@ module _ (limit places : ℕ) (t area : List ℕ) where
   one-load r q left also l k = one-loading limit places t area l k
 
   -- a refused load leaves every byte of the area as it was
-  pub refused-load : (r : Answer) (left : List ℕ) → Loads limit places t area r left → 0 < number r → left ≡ area
-  refused-load r left l h = unloaded limit places t area l h
+  pub refused-load : (r : Answer) (left : List ℕ) → Loads limit places t area r left → (n at : ℕ) → r ≡ Refused n at → left ≡ area
+  refused-load r left l = unloaded limit places t area l
 
   -- a load whose number is 0 was accepted, and leaves a sound table
   module _ (r : Answer) (left : List ℕ) (l : Loads limit places t area r left) (done : number r ≡ 0) where
@@ -72,7 +73,7 @@ module _ (limit places : ℕ) (t area : List ℕ) where
 -- ---- one after the other
 
 -- demand 2: every sound table, written to an output that is long enough and read again, is the same table, byte for byte; and the bytes behind it stay as they were
-pub same-table : (limit places : ℕ) (b out : List ℕ) (r : Answer) (left area : List ℕ) (q : Answer) (after : List ℕ) → Every (λ x. x < 256) b → 930 * places ≤ limit
+pub same-table : (limit places : ℕ) (b out : List ℕ) (r : Answer) (left area : List ℕ) (q : Answer) (after : List ℕ) → Every (λ x. x < 256) b → 883 * places ≤ limit
     → (s : Sound places b) → length (listingOf (s .table)) ≤ length out → Writes places b out r left → Loads limit places (take (value r) left) area q after → slotSize * places ≤ length area
     → (q ≡ Accepted 0) × (take (slotSize * places) after ≡ b) × (drop (slotSize * places) after ≡ drop (slotSize * places) area)
 same-table limit places b out r left area q after bytes room s enough w l fits = round-trip places b s bytes limit room w (room-accepts places b out s enough w) fits l

@@ -21,7 +21,8 @@ use Rattle.records.specs.Gathered.{dataOf, Single, owners, tableOf}
 use Rattle.records.specs.Calls.{Writes, loadTests, Loads}
 use Rattle.records.proofs.RoundLaws.{owners-again, single-again, table-again}
 use Rattle.records.proofs.SameLaws.{same-owners, same-data}
-use Rattle.records.proofs.WrittenLaws.{listing-spells, listing-most}
+use Rattle.records.proofs.WrittenLaws.{listing-spells}
+use Rattle.records.proofs.LengthLaws.{listing-most}
 use Rattle.records.proofs.AreaLaws.{taken-back, left-behind}
 use Rattle.records.proofs.WritingLaws.{text-written}
 use Rattle.records.proofs.LoadingLaws.{was-loaded, filled}
@@ -30,9 +31,9 @@ use Rattle.records.proofs.LoadingLaws.{was-loaded, filled}
 
 module _ (places : ℕ) (b : List ℕ) (s : Sound places b) (bytes : Every (λ x. x < 256) b) where
   -- the listing that is written for a table within the limit is accepted, with the table's records
-  written-checked : (limit : ℕ) → 930 * places ≤ limit → Checked limit (listingOf (s .table)) (accepted (tableRecords (s .table)))
+  written-checked : (limit : ℕ) → 883 * places ≤ limit → Checked limit (listingOf (s .table)) (accepted (tableRecords (s .table)))
   written-checked limit room =
-      Checked.whole (omega (arith, listing-most places (s .table) b (s .slots) bytes, s .slots .room)) (listing-spells places (s .table) b (s .slots) bytes)
+      Checked.whole (omega (arith, listing-most (s .table) (s .slots .each), s .slots .room)) (listing-spells places (s .table) b (s .slots) bytes)
 
   -- and they pass the tests of a load
   written-passes : (area : List ℕ) → slotSize * places ≤ length area → AllHold (loadTests places (tableRecords (s .table)) area)
@@ -40,14 +41,14 @@ module _ (places : ℕ) (b : List ℕ) (s : Sound places b) (bytes : Every (λ x
       let many : length (owners (tableRecords (s .table))) ≡ length (s .table) = ap length (owners-again (s .table) (s .slots .each) (s .distinct)) ∙ length-map (s .table) (λ e. e .name) in
       (single-again (s .table) (s .slots .each) (s .distinct), (omega (arith, many, s .slots .room), (fits, tt)))
 
-  written-loaded : (limit : ℕ) {area after : List ℕ} {q : Answer} → 930 * places ≤ limit → slotSize * places ≤ length area → Loads limit places (listingOf (s .table)) area q after
+  written-loaded : (limit : ℕ) {area after : List ℕ} {q : Answer} → 883 * places ≤ limit → slotSize * places ≤ length area → Loads limit places (listingOf (s .table)) area q after
       → (q ≡ Accepted 0) × (after ≡ overlay area 0 b)
   written-loaded limit {area} room fits l =
       let w = was-loaded limit places (listingOf (s .table)) area (written-checked limit room) (written-passes area fits) l in
       let again : tableBytes places (tableOf (tableRecords (s .table))) ≡ b = ap (tableBytes places) (table-again (s .table) (s .slots .each) (s .distinct)) ∙ sym (s .slots .form) in
       (w .0, w .1 ∙ ap (overlay area 0) again)
 
-  pub round-trip : (limit : ℕ) {out left area after : List ℕ} {r q : Answer} → 930 * places ≤ limit → Writes places b out r left → number r ≡ 0 → slotSize * places ≤ length area
+  pub round-trip : (limit : ℕ) {out left area after : List ℕ} {r q : Answer} → 883 * places ≤ limit → Writes places b out r left → number r ≡ 0 → slotSize * places ≤ length area
       → Loads limit places (take (value r) left) area q after → (q ≡ Accepted 0) × (take (slotSize * places) after ≡ b) × (drop (slotSize * places) after ≡ drop (slotSize * places) area)
   round-trip limit {area} {after} {q} room w done fits l =
       let back = written-loaded limit room fits (subst (λ (t : List ℕ). Loads limit places t area q after) (text-written places b _ s w done) l) in

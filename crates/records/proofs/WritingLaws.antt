@@ -1,5 +1,5 @@
 -- The call that writes a table (specs/Calls.antt): one answer and one content of the area, what a refusal leaves, and what was written where it was accepted. Assumes nothing.
-use Prim.Native.Nat.{ℕ, _≤_, _<_}
+use Prim.Native.Nat.{ℕ, _≤_}
 use mathlib.Core.Path.{_≡_, sym, ap, ap₂, _∙_}
 use mathlib.Core.List.{List}
 use native.Mathlib.Omega.{arith}
@@ -7,7 +7,8 @@ use lib.ListN.{length, take}
 use Rattle.base.specs.Answer.{number, value}
 use Rattle.base.specs.Bytes.{overlay}
 use Rattle.base.specs.declared.Answer.{Answer}
-use Rattle.base.specs.declared.Answer.the-variants.{Accepted}
+use Rattle.base.specs.declared.Answer.the-variants.{Accepted, Refused}
+use Rattle.base.proofs.AnswerLaws.{accepted≢refused}
 use Rattle.slots.specs.Form.{Sound}
 use Rattle.slots.proofs.Theorems.{one-sound-table}
 use Rattle.records.specs.Written.{listingOf}
@@ -34,10 +35,10 @@ module _ (places : ℕ) (b out : List ℕ) where
   )
 
   module _ {r : Answer} {left : List ℕ} where
-    pub unwritten : Writes places b out r left → 0 < number r → left ≡ out
-    unwritten (Writes.not-sound f a e) h = e
-    unwritten (Writes.short s j a e) h = e
-    unwritten (Writes.written s j a e) h = absurd (omega (arith, ap number a))
+    pub unwritten : Writes places b out r left → (n at : ℕ) → r ≡ Refused n at → left ≡ out
+    unwritten (Writes.not-sound f a e) n at h = e
+    unwritten (Writes.short s j a e) n at h = e
+    unwritten (Writes.written s j a e) n at h = absurd (accepted≢refused (sym a ∙ h))
 
     -- an output that is long enough is written to
     pub room-accepts : (s : Sound places b) → length (listingOf (s .table)) ≤ length out → Writes places b out r left → number r ≡ 0

@@ -1,20 +1,18 @@
--- The records of a table whose bytes are below 256 can be written: they are well formed, so that their lines spell them, and how long those are. Assumes nothing.
-use Prim.Native.Nat.{ℕ, _+_, _-_, _*_, _≤_, _<_}
+-- The records of a table whose bytes are below 256 can be written: they are well formed, so that their lines spell them. Assumes nothing.
+use Prim.Native.Nat.{ℕ, _-_, _*_, _<_}
 use mathlib.Core.Path.{_≡_, subst}
 use mathlib.Core.List.{List, [], _∷_, _++_}
 use mathlib.Core.Option.{Option, none, some}
-use native.Mathlib.Omega.{arith}
-use lib.ListN.{length, replicate, length-append}
+use lib.ListN.{length, replicate}
 use Rattle.base.specs.Logic.{Every, IfSome}
 use Rattle.base.proofs.Lists.{every-append, every-left, every-right}
 use Rattle.name.specs.Name.{Proper, canonical, padded}
-use Rattle.grammar.specs.Listing.{RecordType, ResourceRecord, Spells}
+use Rattle.grammar.specs.Listing.{RecordType, Spells}
 use Rattle.writer.specs.Line
-use Rattle.writer.specs.Line.{RdataOf, line, lines}
-use Rattle.writer.proofs.Theorems.{lines-spell, longest-line}
+use Rattle.writer.specs.Line.{RdataOf}
+use Rattle.writer.proofs.Theorems.{lines-spell}
 use Rattle.slots.specs.Form.{TableEntry, field, flags, slotBytes, WellFormed, slotSize, usedSlots, tableBytes, IsTable}
 use Rattle.records.specs.Written.{recordIf, entryRecords, tableRecords, listingOf}
-use Rattle.records.proofs.EntryRecordLaws.{entry-most}
 
 -- ---- the bytes of each part
 
@@ -74,18 +72,6 @@ unfolding tableRecords
 all-well-formed [] h b = Every.none
 all-well-formed (e ∷ t) (Every.more w h) (Every.more c b) = every-append (entryRecords e) (tableRecords t) (entry-well-formed e w c) (all-well-formed t h b)
 
--- ---- how many there are, and how long their lines
-
-most-of-table : (t : List TableEntry) → length (tableRecords t) ≤ 3 * length t
-unfolding tableRecords
-most-of-table [] = omega arith
-most-of-table (e ∷ t) = omega (arith, length-append (entryRecords e) (tableRecords t), entry-most e, most-of-table t)
-
-lines-most : (rs : List ResourceRecord) → Every Line.WellFormed rs → length (lines rs) ≤ 310 * length rs
-unfolding lines
-lines-most [] h = omega arith
-lines-most (r ∷ rs) (Every.more w h) = omega (arith, length-append (line r) (lines rs), longest-line r w, lines-most rs h)
-
 -- ---- the table
 
 module _ (places : ℕ) (t : List TableEntry) (b : List ℕ) (table : IsTable places t b) (bytes : Every (λ x. x < 256) b) where
@@ -95,7 +81,3 @@ module _ (places : ℕ) (t : List TableEntry) (b : List ℕ) (table : IsTable pl
   pub listing-spells : Spells (listingOf t) (tableRecords t)
   unfolding listingOf
   listing-spells = lines-spell (tableRecords t) records-well-formed
-
-  pub listing-most : length (listingOf t) ≤ 930 * length t
-  unfolding listingOf
-  listing-most = omega (arith, lines-most (tableRecords t) records-well-formed, most-of-table t)

@@ -14,7 +14,7 @@ use Rattle.base.specs.declared.Answer.the-variants.{Accepted, Refused}
 use Rattle.grammar.specs.Outcome.{Outcome, accepted, refused}
 use Rattle.grammar.proofs.Reader.{check, inPlaces, answer}
 use Rattle.listing.specs.Reading.{limit, counted}
-use Rattle.listing.proofs.AnswerLaws.{accepted≢refused}
+use Rattle.base.proofs.AnswerLaws.{accepted≢refused}
 use Rattle.row.specs.Row.{refusing, beginning}
 
 -- the check has answered a

@@ -1,6 +1,5 @@
 -- From grammar's answer to the customer's third demand. Assumes nothing.
 use Prim.Native.Nat.{ℕ, _≤_}
-use mathlib.Core.Bool.{Bool, true, false, true≢false, false≢true}
 use mathlib.Core.Path.{_≡_, refl, sym, ap, subst, _∙_}
 use mathlib.Core.List.{List, _++_, map}
 use lib.ListN.{length, take, drop, length-map}
@@ -8,6 +7,7 @@ use lib.Seq.{take-append-seam, drop-append-seam}
 use Rattle.base.specs.Answer.{value}
 use Rattle.base.specs.declared.Answer.{Answer}
 use Rattle.base.specs.declared.Answer.the-variants.{Accepted, Refused}
+use Rattle.base.proofs.AnswerLaws.{accepted≢refused}
 use Rattle.grammar.specs.Listing.{ResourceRecord, Spells}
 use Rattle.grammar.specs.Outcome.{Outcome, accepted, refused, Checked, Answered}
 use Rattle.grammar.proofs.Reader.{answer}
@@ -18,10 +18,6 @@ use Rattle.listing.specs.Reading.{limit, counted}
 use Rattle.row.specs.Demand3.{IsAccepted, Demand3}
 use Rattle.row.specs.Row.{placed, RowRead}
 
-accepts : Answer → Bool
-accepts (Accepted n) = true
-accepts (Refused n p) = false
-
 -- an accepted answer is grammar's list, with room for it
 record Accepts (t : List ℕ) (places : ℕ) : Type 0 where
   list : List ResourceRecord
@@ -30,12 +26,12 @@ record Accepts (t : List ℕ) (places : ℕ) : Type 0 where
   outcome : answer limit places t ≡ accepted list
 
 accepted-list : (t : List ℕ) (places : ℕ) → IsAccepted (counted (answer limit places t)) → Accepts t places
-unfolding IsAccepted accepts
+unfolding IsAccepted
 accepted-list t places h = go (answer limit places t) refl (answers limit places t) h
   where
     go : (o : Outcome) → answer limit places t ≡ o → Answered limit places t o → IsAccepted (counted o) → Accepts t places
     go (accepted rs) e a k = let s = accepted-spells a in record { list = rs; spells = s .0; room = s .1; outcome = e }
-    go (refused n p) e a k = absurd (false≢true (ap accepts (k .1)))
+    go (refused n p) e a k = absurd (accepted≢refused (sym (k .1)))
 
 -- the demand, of grammar's answer and of the row that goes with it
 module _ (t : List ℕ) (lent : List Record) (short : length t ≤ limit) where
@@ -72,11 +68,10 @@ module _ (t : List ℕ) (lent handed : List Record) (a : Answer) (h : RowRead t 
   as-answered o k = (h .answered ∙ ap counted (answered k), h .row ∙ ap (λ (q : Outcome). placed q lent) (answered k))
 
   pub as-lent : (n p : ℕ) → a ≡ Refused n p → handed ≡ lent
-  unfolding accepts
   as-lent n p e = go (answer limit (length lent) t) (sym (h .answered) ∙ e) (h .row)
     where
       go : (o : Outcome) → counted o ≡ Refused n p → handed ≡ placed o lent → handed ≡ lent
-      go (accepted rs) k q = absurd (true≢false (ap accepts k))
+      go (accepted rs) k q = absurd (accepted≢refused k)
       go (refused m r) k q = q
 
   pub beyond-as-lent : drop (value a) handed ≡ drop (value a) lent

@@ -15,7 +15,7 @@ use Rattle.grammar.specs.Listing.{ResourceRecord}
 use Rattle.grammar.specs.Outcome.{accepted, refused, Checked}
 use Rattle.listing.specs.Reading.{limit}
 use Rattle.listing.specs.Giving.{Last, end, refusal, Gives, too-long, whole, faulty}
-use Rattle.listing.proofs.AnswerLaws.{accepted≢refused}
+use Rattle.base.proofs.AnswerLaws.{accepted≢refused}
 use Rattle.listing.proofs.Theorems.{some-giving}
 use Rattle.slots.specs.Form.{tableBytes}
 use Rattle.slots.proofs.TableLaws.{length-table}

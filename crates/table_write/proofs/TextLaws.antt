@@ -1,25 +1,22 @@
--- The text of an entry and of a table, part by part, and how long it is. Assumes nothing.
-use Prim.Native.Nat.{ℕ, _+_, _*_, _≤_}
+-- The text of an entry and of a table, part by part. Assumes nothing.
+use Prim.Native.Nat.{ℕ, _+_, _≤_}
 use mathlib.Core.Bool.{true, false, true≢false, false≢true}
 use mathlib.Core.Path.{_≡_, refl, sym, ap, _∙_}
 use mathlib.Core.List.{List, [], _∷_, _++_, append-assoc, append-nil}
 use mathlib.Core.Option.{Option, none, some}
-use native.Mathlib.Omega.{arith}
 use lib.ListN.{length, take, drop, length-append}
 use lib.Seq.{take-add}
-use Rattle.base.specs.Logic.{Every, IfSome}
 use Rattle.name.specs.Promise.{textOf}
-use Rattle.name.proofs.WireLaws.{proper-short}
 use Rattle.grammar.specs.Listing.{RecordType, ResourceRecord}
 use Rattle.entry.specs.Parts.{number}
 use Rattle.writer.specs.Line.{line, lines}
 use Rattle.writer.specs.Parts.{restPart}
-use Rattle.writer.proofs.LineLaws.{rdataSize, longestLine, rest-line, line-most, lines-append}
+use Rattle.writer.proofs.LineLaws.{rdataSize, rest-line, lines-append}
 use Rattle.slots.specs.Fields.{inField, there, fieldSize}
 use Rattle.slots.specs.Form.{TableEntry, field, WellFormed}
 use Rattle.slots.specs.declared.Rtype.{Rtype}
 use Rattle.slots.specs.declared.Rtype.the-variants.{A, Aaaa, Dhcid}
-use Rattle.slots.proofs.LaidLaws.{holder-length}
+use Rattle.records.proofs.LengthLaws.{entry-most}
 use Rattle.records.specs.Written.{recordIf, entryRecords, tableRecords, listingOf}
 use Rattle.table_write.specs.Promise.{typeOf, fieldText, entryText}
 
@@ -37,13 +34,6 @@ module _ (n : List ℕ) (k : RecordType) where
   unfolding lines
   line-some none bs h long first = absurd (false≢true h)
   line-some (some x) bs h long first = append-nil (line (record { owner = n; rtype = k; rdata = x })) ∙ sym (rest-line k x bs long first n)
-
-  line-if-most : (o : Option (List ℕ)) → length n ≤ 255 → IfSome (λ x. length x ≡ rdataSize k) o → length (lines (recordIf n k o)) ≤ longestLine k
-  unfolding lines
-  line-if-most none short size = omega arith
-  line-if-most (some x) short size =
-      let r : ResourceRecord = record { owner = n; rtype = k; rdata = x } in
-      omega (arith, ap length (append-nil (line r)), line-most n k x short size)
 
 same-size : (k : Rtype) → fieldSize k ≡ rdataSize (typeOf k)
 same-size A = refl
@@ -75,15 +65,9 @@ length-entry e =
     ap length (entry-text e) ∙ length-append (fieldText A e ++ fieldText Aaaa e) (fieldText Dhcid e)
     ∙ ap (λ (n : ℕ). n + length (fieldText Dhcid e)) (length-append (fieldText A e) (fieldText Aaaa e))
 
-field-most : (k : Rtype) (e : TableEntry) → WellFormed e → length (fieldText k e) ≤ longestLine (typeOf k)
-unfolding fieldText
-field-most A e w = line-if-most (e .name) RecordType.A (e .a) (proper-short (e .name) (w .proper)) (w .a)
-field-most Aaaa e w = line-if-most (e .name) RecordType.AAAA (e .aaaa) (proper-short (e .name) (w .proper)) (w .aaaa)
-field-most Dhcid e w = line-if-most (e .name) RecordType.DHCID (e .holder) (proper-short (e .name) (w .proper)) (holder-length (e .holder) (w .dhcid))
-
--- 273, 300 and 310 bytes
-pub entry-most : (e : TableEntry) → WellFormed e → length (entryText e) ≤ 883
-entry-most e w = omega (arith, length-entry e, field-most A e w, field-most Aaaa e w, field-most Dhcid e w)
+pub text-most : (e : TableEntry) → WellFormed e → length (entryText e) ≤ 883
+unfolding entryText
+text-most e w = entry-most e w
 
 -- ---- the listing of a table
 
@@ -106,8 +90,3 @@ pub listing-next : (t : List TableEntry) (i : ℕ) (e : TableEntry) (r : List Ta
 listing-next t i e r cut =
     ap listingOf (take-add i 1 t ∙ ap (λ (l : List TableEntry). take i t ++ take 1 l) cut) ∙ listing-append (take i t) (e ∷ [])
     ∙ ap (λ (l : List ℕ). listingOf (take i t) ++ l) (listing-more e [] ∙ ap (λ (l : List ℕ). entryText e ++ l) listing-none ∙ append-nil (entryText e))
-
-pub listing-most : (t : List TableEntry) → Every WellFormed t → length (listingOf t) ≤ 883 * length t
-listing-most [] Every.none = omega (arith, ap length listing-none)
-listing-most (e ∷ t) (Every.more w each) =
-    omega (arith, ap length (listing-more e t), length-append (entryText e) (listingOf t), entry-most e w, listing-most t each)

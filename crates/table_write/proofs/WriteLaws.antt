@@ -21,7 +21,8 @@ use Rattle.slots.proofs.NameLaws.{EntryAt, entry-at}
 use Rattle.slots.proofs.TableLaws.{some-at}
 use Rattle.records.specs.Written.{listingOf}
 use Rattle.table_write.specs.Promise.{typeOf, fieldText, entryText, SlotFits, Puts}
-use Rattle.table_write.proofs.TextLaws.{field-some, entry-text, listing-none, listing-append, listing-next, listing-most}
+use Rattle.table_write.proofs.TextLaws.{field-some, entry-text, listing-none, listing-append, listing-next}
+use Rattle.records.proofs.LengthLaws.{listing-most}
 
 -- ---- one text behind the other
 

@@ -1,6 +1,6 @@
 use native.Mathlib.Omega.{arith}
 use Rattle.slots.specs.Form.{IsSlot}
-use Rattle.table_write.proofs.TextLaws.{length-entry, entry-most}
+use Rattle.table_write.proofs.TextLaws.{length-entry, text-most}
 use borrow.Author.Needs.{needs}
 use Rattle.table_write.proofs.slot_length.Statement.{statement}
 use Rattle.table_write.proofs.slot_length.Tie as tie
@@ -20,7 +20,7 @@ add-result c =
       c .before .field-length .ensures (h .0) (h .1) (h .2),
       c .field-length2 .ensures (h .0) (h .1) (h .2),
       length-entry (h .0),
-      entry-most (h .0) (h .1),
+      text-most (h .0) (h .1),
     )
 
 field-length-requires-3 : tie.Need-field-length-requires-3
@@ -36,7 +36,7 @@ add-result-2 c =
       c .before .field-length2 .ensures (h .0) (h .1) (h .2),
       c .field-length3 .ensures (h .0) (h .1) (h .2),
       length-entry (h .0),
-      entry-most (h .0) (h .1),
+      text-most (h .0) (h .1),
     )
 
 returns : tie.Need-returns
