@@ -1,0 +1,202 @@
+-- Demand 1, of the calls on the table. Assumes nothing.
+use Prim.Native.Nat.{ℕ, _^_, _≤_, _<_}
+use mathlib.Core.Bool.{true, false, true≢false, false≢true}
+use mathlib.Core.Path.{_≡_, refl, sym, ap, subst, _∙_}
+use mathlib.Core.Logic.{_⊎_, inl, inr}
+use mathlib.Core.List.{List, [], _∷_, _++_}
+use mathlib.Core.Option.{Option, none, some, Option·some-injective, Option·some-ne-none, Option·none-ne-some}
+use native.Mathlib.Omega.{arith}
+use lib.ListN.{length}
+use Rattle.base.specs.Bytes.{eqBytes}
+use Rattle.base.specs.Order.{Test, AllHold, FirstFault}
+use Rattle.base.specs.declared.Answer.{Answer}
+use Rattle.base.specs.declared.Answer.the-variants.{Accepted, Refused}
+use Rattle.base.proofs.OrderLaws.{fault-before}
+use Rattle.base.proofs.Tests.{eqBytes-true, eq-eqBytes}
+use Rattle.name.specs.Name.{canonical}
+use Rattle.slots.specs.Entry.{familyOf, addressOf}
+use Rattle.slots.specs.Form.{TableEntry, Sound}
+use Rattle.slots.specs.Promise.{isAddress}
+use Rattle.slots.proofs.Theorems.{one-sound-table}
+use Rattle.table.specs.Steps.{Outcome, find}
+use Rattle.table.specs.Calls.{KnownFamily, KnownPolicy, nameTests, argumentTests, Adds, Removes, Clears}
+use Rattle.table.proofs.CaseLaws.{Adding, add-case, Removing, remove-case, Clearing, clear-case}
+use Rattle.records.specs.Written.{listingOf}
+use Rattle.records.specs.Calls.{Writes}
+use Rattle.records.proofs.Theorems.{written-short}
+use Rattle.demands.specs.Faults.{Of, Stands, ByHand, HeldBy, addTests, removeTests, clearTests, writeTests}
+use Rattle.demands.proofs.AnswerLaws.{InRow, after}
+
+-- ---- what stands under a name
+
+module _ (n : List ℕ) (t : List TableEntry) where
+  one-entry : {e d : TableEntry} → find n t ≡ some e → find n t ≡ some d → e ≡ d
+  one-entry {e} {d} p q = Option·some-injective e d (sym p ∙ q)
+
+  none-stands : {e : TableEntry} → find n t ≡ none → find n t ≡ some e → ⊥
+  none-stands {e} p q = Option·none-ne-some e (sym p ∙ q)
+
+  not-by-hand : {e : TableEntry} {k : List ℕ} → find n t ≡ some e → e .holder ≡ some k → ByHand n t → ⊥
+  unfolding ByHand
+  not-by-hand {e} {k} found holder (d, also, nobody) = Option·none-ne-some k (sym nobody ∙ ap (λ (y : TableEntry). y .holder) (one-entry also found) ∙ holder)
+
+  one-holder : {e : TableEntry} {k d : List ℕ} → find n t ≡ some e → e .holder ≡ some k → HeldBy d n t → k ≡ d
+  unfolding HeldBy
+  one-holder {e} {k} {d} found holder (c, also, held) = Option·some-injective k d (sym holder ∙ ap (λ (y : TableEntry). y .holder) (one-entry found also) ∙ held)
+
+differs : {k d : List ℕ} → eqBytes k d ≡ false → k ≡ d → ⊥
+differs {k} {d} other e = true≢false (sym (eq-eqBytes k d e) ∙ other)
+
+-- the answer of an outcome
+answered : {a : Answer} {o p : Outcome (List ℕ)} → a ≡ o .answer → o ≡ p → a ≡ p .answer
+answered e q = e ∙ ap (λ (r : Outcome (List ℕ)). r .answer) q
+
+-- is it that address?
+the-address : (o : Option (List ℕ)) (x : List ℕ) → isAddress o x ≡ true → o ≡ some x
+the-address none x e = absurd (false≢true e)
+the-address (some y) x e = ap some (eqBytes-true y x e)
+
+no-address : (o : Option (List ℕ)) (x : List ℕ) → isAddress o x ≡ false → o ≡ some x → ⊥
+no-address none x e q = Option·none-ne-some x q
+no-address (some y) x e q = differs e (Option·some-injective y x q)
+
+-- of the table that b is
+module _ (b : List ℕ) (s : Sound 64 b) where
+  holds : (P : List TableEntry → Type 0) → P (s .table) → Of b P
+  holds P p k = subst P (one-sound-table 64 b s k) p
+
+  fails : (P : List TableEntry → Type 0) → (P (s .table) → ⊥) → Of b P → ⊥
+  fails P np f = np (f s)
+
+-- ---- the calls
+
+module _ (b name dhcid : List ℕ) (family : ℕ) (address : List ℕ) where
+  abbrev n : List ℕ
+  n = canonical name
+
+  abbrev Hand : List TableEntry → Type 0
+  Hand t = ByHand n t → ⊥
+
+  module _ (policy : ℕ) (a : Answer) (left : List ℕ) where
+    -- 32, 31 and 30 of an add
+    abbrev Room : List TableEntry → Type 0
+    Room t = find n t ≡ none → length t < 64
+
+    abbrev Other : List TableEntry → Type 0
+    Other t = (d : List ℕ) → HeldBy d n t → policy ≡ 0 → d ≡ dhcid
+
+    abbrev steps : List Test
+    steps = record { number = 32; holds = Of b Room } ∷ record { number = 31; holds = Of b Hand } ∷ record { number = 30; holds = Of b Other } ∷ []
+
+    stepped : (s : Sound 64 b) {o : Outcome (List ℕ)} → a ≡ o .answer → Adding eqBytes (s .table) n dhcid (familyOf family) address 64 policy o → InRow a steps
+    unfolding ByHand HeldBy
+    stepped s e (Adding.put-last found room o) =
+        InRow.passed 0 (answered e o) (omega arith) (
+          holds b s Room (λ q. room),
+          (holds b s Hand (λ h. none-stands n (s .table) found (h .1)), (holds b s Other (λ d h z. absurd (none-stands n (s .table) found (h .1))), tt)),
+        )
+    stepped s e (Adding.full found full o) = InRow.failed 32 (answered e o) (inl (fails b s Room (λ f. omega (arith, f found)), refl))
+    stepped s e (Adding.by-hand c found holder o) =
+        InRow.failed 31 (answered e o) (inr (
+          holds b s Room (λ q. absurd (none-stands n (s .table) q found)),
+          inl (fails b s Hand (λ f. f (c, found, holder)), refl),
+        ))
+    stepped s e (Adding.same-client c k found holder same o) =
+        InRow.passed 1 (answered e o) (omega arith) (
+          holds b s Room (λ q. absurd (none-stands n (s .table) q found)),
+          (
+            holds b s Hand (λ h. not-by-hand n (s .table) found holder h),
+            (holds b s Other (λ d h z. sym (one-holder n (s .table) found holder h) ∙ eqBytes-true k dhcid same), tt),
+          ),
+        )
+    stepped s e (Adding.first-wins c k found holder other first o) =
+        InRow.failed 30 (answered e o) (inr (
+          holds b s Room (λ q. absurd (none-stands n (s .table) q found)),
+          inr (holds b s Hand (λ h. not-by-hand n (s .table) found holder h), inl (fails b s Other (λ f. differs other (f k (c, found, holder) first)), refl)),
+        ))
+    stepped s e (Adding.latest-wins c k found holder other latest o) =
+        InRow.passed 2 (answered e o) (omega arith) (
+          holds b s Room (λ q. absurd (none-stands n (s .table) q found)),
+          (holds b s Hand (λ h. not-by-hand n (s .table) found holder h), (holds b s Other (λ d h z. absurd (latest z)), tt)),
+        )
+
+    pub add-in-row : Adds 64 b name dhcid family address policy a left → InRow a (addTests b name dhcid family address policy)
+    unfolding Adds
+    add-in-row (inl f) = InRow.failed (f .number) (f .answer) (fault-before (argumentTests 64 (KnownFamily family × KnownPolicy policy) b name dhcid family address) steps (f .number) (f .fault))
+    add-in-row (inr s) =
+        after (argumentTests 64 (KnownFamily family × KnownPolicy policy) b name dhcid family address) steps (s .all-hold)
+        (stepped (s .sound) (s .answer) (add-case eqBytes (s .sound .table) n dhcid (familyOf family) address 64 policy))
+
+  module _ (a : Answer) (left : List ℕ) where
+    -- 33, 31, 30 and 34 of a remove
+    abbrev Same : List TableEntry → Type 0
+    Same t = (e : TableEntry) → find n t ≡ some e → addressOf (familyOf family) e ≡ some address
+
+    abbrev removals : List Test
+    removals =
+        record { number = 33; holds = Of b (Stands n) } ∷ record { number = 31; holds = Of b Hand } ∷ record { number = 30; holds = Of b (HeldBy dhcid n) }
+        ∷ record { number = 34; holds = Of b Same } ∷ []
+
+    removed : (s : Sound 64 b) {o : Outcome (List ℕ)} → a ≡ o .answer → Removing eqBytes (s .table) n dhcid (familyOf family) address o → InRow a removals
+    unfolding Stands ByHand HeldBy
+    removed s e (Removing.not-held found o) = InRow.failed 33 (answered e o) (inl (fails b s (Stands n) (λ h. none-stands n (s .table) found (h .1)), refl))
+    removed s e (Removing.by-hand c found holder o) =
+        InRow.failed 31 (answered e o) (inr (holds b s (Stands n) (c, found), inl (fails b s Hand (λ f. f (c, found, holder)), refl)))
+    removed s e (Removing.another c k found holder other o) =
+        InRow.failed 30 (answered e o) (inr (
+          holds b s (Stands n) (c, found),
+          inr (holds b s Hand (λ h. not-by-hand n (s .table) found holder h), inl (fails b s (HeldBy dhcid n) (λ h. differs other (one-holder n (s .table) found holder h)), refl)),
+        ))
+    removed s e (Removing.differs c k found holder same elsewhere o) =
+        InRow.failed 34 (answered e o) (inr (
+          holds b s (Stands n) (c, found),
+          inr (
+            holds b s Hand (λ h. not-by-hand n (s .table) found holder h),
+            inr (holds b s (HeldBy dhcid n) (c, found, holder ∙ ap some (eqBytes-true k dhcid same)), inl (fails b s Same (λ f. no-address (addressOf (familyOf family) c) address elsewhere (f c found)), refl)),
+          ),
+        ))
+    removed s e (Removing.removed c k found holder same there o) =
+        InRow.passed 0 (answered e o) (omega arith) (
+          holds b s (Stands n) (c, found),
+          (
+            holds b s Hand (λ h. not-by-hand n (s .table) found holder h),
+            (
+              holds b s (HeldBy dhcid n) (c, found, holder ∙ ap some (eqBytes-true k dhcid same)),
+              (holds b s Same (λ d also. ap (addressOf (familyOf family)) (one-entry n (s .table) also found) ∙ the-address (addressOf (familyOf family) c) address there), tt),
+            ),
+          ),
+        )
+
+    pub remove-in-row : Removes 64 b name dhcid family address a left → InRow a (removeTests b name dhcid family address)
+    unfolding Removes
+    remove-in-row (inl f) = InRow.failed (f .number) (f .answer) (fault-before (argumentTests 64 (KnownFamily family) b name dhcid family address) removals (f .number) (f .fault))
+    remove-in-row (inr s) =
+        after (argumentTests 64 (KnownFamily family) b name dhcid family address) removals (s .all-hold)
+        (removed (s .sound) (s .answer) (remove-case eqBytes (s .sound .table) n dhcid (familyOf family) address))
+
+module _ (b name : List ℕ) (a : Answer) (left : List ℕ) where
+  abbrev clearance : List Test
+  clearance = record { number = 33; holds = Of b (Stands (canonical name)) } ∷ []
+
+  cleared : (s : Sound 64 b) {o : Outcome (List ℕ)} → a ≡ o .answer → Clearing (s .table) (canonical name) o → InRow a clearance
+  unfolding Stands
+  cleared s e (Clearing.not-held found o) = InRow.failed 33 (answered e o) (inl (fails b s (Stands (canonical name)) (λ h. none-stands (canonical name) (s .table) found (h .1)), refl))
+  cleared s e (Clearing.cleared c found o) = InRow.passed 0 (answered e o) (omega arith) (holds b s (Stands (canonical name)) (c, found), tt)
+
+  pub clear-in-row : Clears 64 b name a left → InRow a (clearTests b name)
+  unfolding Clears
+  clear-in-row (inl f) = InRow.failed (f .number) (f .answer) (fault-before (nameTests 64 b name) clearance (f .number) (f .fault))
+  clear-in-row (inr s) = after (nameTests 64 b name) clearance (s .all-hold) (cleared (s .sound) (s .answer) (clear-case (s .sound .table) (canonical name)))
+
+module _ (b out : List ℕ) (a : Answer) (left : List ℕ) where
+  abbrev Short : List TableEntry → Type 0
+  Short t = length (listingOf t) ≤ length out
+
+  -- 56,512 bytes at most
+  short-listing : (s : Sound 64 b) → length (listingOf (s .table)) < 2 ^ 32
+  short-listing s = omega (arith, written-short 64 b s, s .slots .room)
+
+  pub write-in-row : Writes 64 b out a left → InRow a (writeTests b out)
+  write-in-row (Writes.not-sound f e l) = InRow.failed 40 e (inl (f, refl))
+  write-in-row (Writes.short s room e l) = InRow.failed 13 e (inr (s, inl (fails b s Short (λ f. omega (arith, f)), refl)))
+  write-in-row (Writes.written s room e l) = InRow.passed (length (listingOf (s .table))) e (short-listing s) (s, (holds b s Short room, tt))

@@ -1,0 +1,49 @@
+use native.Mathlib.Omega.{arith}
+use lib.ListN.{length-take}
+use Rattle.base.proofs.Lists.{every-from}
+use Rattle.demands.proofs.ChangeLaws.{not-refused, same-carried}
+use borrow.Author.Needs.{needs}
+use Rattle.demands.proofs.table_carried.Statement.{statement}
+use Rattle.demands.proofs.table_carried.Tie as tie
+
+vichrelka-table-write-requires : tie.Need-vichrelka-table-write-requires
+vichrelka-table-write-requires c κs = search needs
+
+same-length : tie.Need-same-length
+same-length c = search needs
+
+returns : tie.Need-returns
+returns c s room enough = absurd (not-refused _ _ _ s room _ (c .before .before .before .vichrelka-table-write .ensures) (c .if1 .taken))
+
+slice-reshare-prefix-vichrelka-table-load : tie.Need-slice-reshare-prefix-vichrelka-table-load
+slice-reshare-prefix-vichrelka-table-load c = search needs
+
+slice-aggregate-vichrelka-table-load : tie.Need-slice-aggregate-vichrelka-table-load
+slice-aggregate-vichrelka-table-load c = simp length-take (omega arith)
+
+vichrelka-table-load-requires : tie.Need-vichrelka-table-load-requires
+vichrelka-table-load-requires c κs = search needs
+
+same-length-2 : tie.Need-same-length-2
+same-length-2 c = search needs
+
+same-length-3 : tie.Need-same-length-3
+same-length-3 c = search needs
+
+returns-2 : tie.Need-returns-2
+returns-2 c s room enough =
+    same-carried _ _ _ s room _ (c .before .before .before .before .before .before .before .before .vichrelka-table-write .ensures) _ _ _ (every-from _ (λ i. omega (arith, c .before .before .before .before .before .before .before .before .before .before .before .before .shared-slice-known .given i))) enough (c .before .before .vichrelka-table-load .ensures)
+
+pub table-carried-spec : {M : Type 1} → statement M
+table-carried-spec =
+    tie.close
+    (tie.spec
+    vichrelka-table-write-requires
+    same-length
+    returns
+    slice-reshare-prefix-vichrelka-table-load
+    slice-aggregate-vichrelka-table-load
+    vichrelka-table-load-requires
+    same-length-2
+    same-length-3
+    returns-2)

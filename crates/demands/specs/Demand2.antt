@@ -1,0 +1,98 @@
+-- The customer's second demand, sentence by sentence.
+use Prim.Native.Nat.{ℕ, _*_, _≤_, _<_}
+use mathlib.Core.Path.{_≡_}
+use mathlib.Core.Logic.{_↔_}
+use mathlib.Core.List.{List}
+use mathlib.Core.Option.{some}
+use lib.ListN.{length, take, drop}
+use Rattle.base.specs.Answer.{value}
+use Rattle.base.specs.Logic.{Every}
+use Rattle.base.specs.Order.{AllHold}
+use Rattle.base.specs.declared.Answer.{Answer}
+use Rattle.base.specs.declared.Answer.the-variants.{Accepted}
+use Rattle.name.specs.Name.{canonical}
+use Rattle.message.specs.Request.{identifierBytes}
+use Rattle.message.specs.declared.Request.{Request}
+use Rattle.dhcid.specs.Chosen.{Says, Chooses, nameBytes}
+use Rattle.dhcid.specs.Choosing.{writingAnswer, writingOutput}
+use Rattle.dhcid.specs.Dhcid as rfc4701
+use Rattle.dhcid.specs.declared.Chosen.{Chosen}
+use Rattle.row.specs.Demand3.{IsAccepted}
+use Rattle.slots.specs.Entry.{familyOf, names, addressOf}
+use Rattle.slots.specs.Form.{TableEntry, Sound}
+use Rattle.table.specs.Steps.{find}
+use Rattle.table.specs.Calls.{KnownFamily, KnownPolicy, nameTests, argumentTests, Adds, Removes, Clears}
+use Rattle.table.specs.Demand2.{others, Ordered, MayInstall, Installed, Deleted, Cleared}
+use Rattle.records.specs.Calls.{Writes, Loads}
+
+-- ---- "The DHCID of a request and a name is the one RFC 4701 defines."
+
+-- the call for a DHCID was accepted: what the output now begins with is the DHCID of the request that the message says and of the name that is chosen (dhcid, specs/Dhcid.antt), 35 bytes; what stands behind them stays
+pub record IsRfc4701 (family setting : ℕ) (m site out : List ℕ) (a : Answer) (left : List ℕ) : Type 0 where
+  pub length : a ≡ Accepted 35
+  pub dhcid : (r : Request) (c : Chosen) → Says family m r → Chooses family setting m site c
+      → take 35 left ≡ rfc4701.dhcid (r .«id_type») (identifierBytes m r) (nameBytes m site c)
+  pub rest : drop 35 left ≡ drop 35 out
+
+-- ---- "Every sound table, written as a listing and read again, is the same table."
+
+-- the table with the bytes b was written into an output of 56,512 bytes or more, which now holds `left`, and a was answered; what was written was loaded into an area for a table, which now holds `after`, and q was answered
+pub record SameTable (b : List ℕ) (area : List ℕ) (q : Answer) (after : List ℕ) : Type 0 where
+  pub accepted : q ≡ Accepted 0
+  pub same : take 19968 after ≡ b
+  pub rest : drop 19968 after ≡ drop 19968 area
+
+-- ---- "With sound arguments, an add installs a client exactly if the name is unused and a place is free, or holds that client's DHCID, or is held by another DHCID while the site lets the latest client win."
+
+-- sound arguments: none of the tests of 12, 40, 9, 15 and 16 fails
+unfoldable pub SoundAdd : List ℕ → List ℕ → List ℕ → ℕ → List ℕ → ℕ → Type 0
+SoundAdd b name dhcid family address policy = AllHold (argumentTests 64 (KnownFamily family × KnownPolicy policy) b name dhcid family address)
+
+-- an add to the table with the entries t left `left`, and a was answered
+pub record AddsClient (t : List TableEntry) (name dhcid : List ℕ) (family : ℕ) (address : List ℕ) (policy : ℕ) (a : Answer) (left : List ℕ) : Type 0 where
+  pub exactly : Installed 64 left (canonical name) dhcid (familyOf family) address a ↔ MayInstall 64 t (canonical name) dhcid policy
+  -- and no more: every other entry stays, and so does the order
+  pub sound : Sound 64 left
+  pub others : others (canonical name) (sound .table) ≡ others (canonical name) t
+  pub order : Ordered (canonical name) (names t) (names (sound .table))
+
+-- ---- "A remove and a clear do what document 01 says and no more."
+
+unfoldable pub SoundRemove : List ℕ → List ℕ → List ℕ → ℕ → List ℕ → Type 0
+SoundRemove b name dhcid family address = AllHold (argumentTests 64 (KnownFamily family) b name dhcid family address)
+
+-- the name's entry in t has that client's DHCID and that address
+pub record HoldsAddress (t : List TableEntry) (name dhcid : List ℕ) (family : ℕ) (address : List ℕ) : Type 0 where
+  pub entry : TableEntry
+  pub stands : find (canonical name) t ≡ some entry
+  pub holder : entry .holder ≡ some dhcid
+  pub has : addressOf (familyOf family) entry ≡ some address
+
+pub record RemovesAddress (t : List TableEntry) (name dhcid : List ℕ) (family : ℕ) (address : List ℕ) (a : Answer) (left : List ℕ) : Type 0 where
+  pub exactly : IsAccepted a ↔ HoldsAddress t name dhcid family address
+  pub sound : Sound 64 left
+  -- that address is gone, and nothing else
+  pub deleted : IsAccepted a → (a ≡ Accepted 0) × Deleted t (sound .table) (canonical name) dhcid (familyOf family) address
+
+unfoldable pub SoundClear : List ℕ → List ℕ → Type 0
+SoundClear b name = AllHold (nameTests 64 b name)
+
+pub record ClearsName (t : List TableEntry) (name : List ℕ) (a : Answer) (left : List ℕ) : Type 0 where
+  pub exactly : IsAccepted a ↔ ((e : TableEntry) × (find (canonical name) t ≡ some e))
+  pub sound : Sound 64 left
+  -- that name is gone, and nothing else
+  pub cleared : IsAccepted a → (a ≡ Accepted 0) × Cleared t (sound .table) (canonical name)
+
+-- ---- the demand
+
+pub record Demand2 : Type 0 where
+  pub dhcid : (family setting : ℕ) (m site out : List ℕ) (a : Answer) (left : List ℕ)
+      → a ≡ writingAnswer family setting m site out → left ≡ writingOutput family setting m site out → IsAccepted a → IsRfc4701 family setting m site out a left
+  pub same-table : (b out : List ℕ) (a : Answer) (left area : List ℕ) (q : Answer) (after : List ℕ) → Every (λ x. x < 256) b → Sound 64 b → 56512 ≤ length out → 19968 ≤ length area
+      → Writes 64 b out a left → Loads 65536 64 (take (value a) left) area q after → SameTable b area q after
+  pub add : (b name dhcid : List ℕ) (family : ℕ) (address : List ℕ) (policy : ℕ) (a : Answer) (left : List ℕ) → Adds 64 b name dhcid family address policy a left
+      → SoundAdd b name dhcid family address policy → (s : Sound 64 b) → AddsClient (s .table) name dhcid family address policy a left
+  pub remove : (b name dhcid : List ℕ) (family : ℕ) (address : List ℕ) (a : Answer) (left : List ℕ) → Removes 64 b name dhcid family address a left
+      → SoundRemove b name dhcid family address → (s : Sound 64 b) → RemovesAddress (s .table) name dhcid family address a left
+  pub clear : (b name : List ℕ) (a : Answer) (left : List ℕ) → Clears 64 b name a left
+      → SoundClear b name → (s : Sound 64 b) → ClearsName (s .table) name a left

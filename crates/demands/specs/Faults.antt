@@ -1,0 +1,107 @@
+-- Bad input, call by call: with which number document 01 refuses it, by its order, and at which place. Where an order is a row of numbers it stands here as a row of tests, and the first one that fails
+-- decides (base, specs/Order.antt); the orders inside a message and inside a listing are those of the definitions that are named. The place is 0 but for a listing's faulty entry.
+use Prim.Native.Nat.{ℕ, _+_, _≤_, _<_}
+use mathlib.Core.Path.{_≡_}
+use mathlib.Core.Logic.{_⊎_}
+use mathlib.Core.List.{List, [], _∷_, _++_}
+use mathlib.Core.Option.{none, some}
+use lib.ListN.{length}
+use Rattle.base.specs.Order.{Test, FirstFault}
+use Rattle.base.specs.Refusal.{outputShort, hashInputLong, heldByAnother, keptByHand, tableFull, nameNotHeld, addressDiffers, tableNotSound}
+use Rattle.name.specs.Name.{canonical}
+use Rattle.message.specs.Request.{identifierBytes}
+use Rattle.message.specs.declared.Request.{Request}
+use Rattle.dhcid.specs.Chosen.{Says, Chooses, nameBytes}
+use Rattle.dhcid.specs.declared.Chosen.{Chosen}
+use Rattle.grammar.specs.Listing.{ResourceRecord}
+use Rattle.grammar.specs.Outcome.{accepted, refused, Checked, Answered}
+use Rattle.listing.specs.Giving.{Gives, refusal}
+use Rattle.slots.specs.Entry.{familyOf, addressOf}
+use Rattle.slots.specs.Form.{TableEntry, Sound}
+use Rattle.table.specs.Steps.{find}
+use Rattle.table.specs.Calls.{KnownFamily, KnownPolicy, nameTests, argumentTests}
+use Rattle.records.specs.Written.{listingOf}
+use Rattle.records.specs.Calls.{loadTests}
+
+-- the first of the tests that fails has the number n; the place is 0
+abbrev pub InOrder : List Test → ℕ → ℕ → Type 0
+InOrder ts n place = FirstFault ts n × (place ≡ 0)
+
+-- ---- a request
+
+-- the chosen name: 12, the message's refusals, 9 (dhcid, specs/Chosen.antt; message4, specs/Message4.antt; message6, specs/Message6.antt)
+unfoldable pub NameFault : ℕ → ℕ → List ℕ → List ℕ → ℕ → ℕ → Type 0
+NameFault family setting m site n place = (c : Chosen) × Chooses family setting m site c × (c .refusal ≡ n) × (n ≡ 0 → ⊥) × (place ≡ 0)
+
+-- and then, for the DHCID: 14, 13
+abbrev pub dhcidTests : ℕ → ℕ → List Test
+dhcidTests hashed room = record { number = hashInputLong; holds = hashed ≤ 4096 } ∷ record { number = outputShort; holds = 35 ≤ room } ∷ []
+
+-- a name is chosen, and then one of these fails
+unfoldable pub RoomFault : ℕ → ℕ → List ℕ → List ℕ → List ℕ → ℕ → ℕ → Type 0
+RoomFault family setting m site out n place =
+    (r : Request) × (c : Chosen) × Says family m r × Chooses family setting m site c × (c .refusal ≡ 0)
+    × InOrder (dhcidTests (length (identifierBytes m r) + length (nameBytes m site c)) (length out)) n place
+
+unfoldable pub DhcidFault : ℕ → ℕ → List ℕ → List ℕ → List ℕ → ℕ → ℕ → Type 0
+DhcidFault family setting m site out n place = NameFault family setting m site n place ⊎ RoomFault family setting m site out n place
+
+-- ---- a listing, of at most 65,536 bytes
+
+-- read as a whole: 17, then the first faulty entry and its first fault, at the place of its first byte (grammar, specs/Outcome.antt and specs/Faults.antt)
+unfoldable pub ListingFault : List ℕ → ℕ → ℕ → Type 0
+ListingFault t n place = Checked 65536 t (refused n place)
+
+-- read into a row of so many places: 25 after all these
+unfoldable pub RowFault : ℕ → List ℕ → ℕ → ℕ → Type 0
+RowFault places t n place = Answered 65536 places t (refused n place)
+
+-- read one record at a time, from the offset at on: no record is left before the refusal (listing, specs/Giving.antt)
+unfoldable pub StepFault : List ℕ → ℕ → ℕ → ℕ → Type 0
+StepFault t at n place = Gives t at [] (refusal n place)
+
+-- ---- the table, of 64 names
+
+-- P holds of the entries that the bytes b are
+abbrev pub Of : List ℕ → (List TableEntry → Type 0) → Type 0
+Of b P = (s : Sound 64 b) → P (s .table)
+
+-- the entry under the name n: that there is one; that nobody holds it, which is document 01's kept by hand; that the client with the DHCID d holds it
+unfoldable pub Stands : List ℕ → List TableEntry → Type 0
+Stands n t = (e : TableEntry) × (find n t ≡ some e)
+
+unfoldable pub ByHand : List ℕ → List TableEntry → Type 0
+ByHand n t = (e : TableEntry) × (find n t ≡ some e) × (e .holder ≡ none)
+
+unfoldable pub HeldBy : List ℕ → List ℕ → List TableEntry → Type 0
+HeldBy d n t = (e : TableEntry) × (find n t ≡ some e) × (e .holder ≡ some d)
+
+-- Add: 12, 40, 9, 15, 16; then 32 for an unused name, 31, and 30 where the first wins
+abbrev pub addTests : List ℕ → List ℕ → List ℕ → ℕ → List ℕ → ℕ → List Test
+addTests b name dhcid family address policy =
+    argumentTests 64 (KnownFamily family × KnownPolicy policy) b name dhcid family address
+    ++ record { number = tableFull; holds = Of b (λ t. find (canonical name) t ≡ none → length t < 64) }
+    ∷ record { number = keptByHand; holds = Of b (λ t. ByHand (canonical name) t → ⊥) }
+    ∷ record { number = heldByAnother; holds = Of b (λ t. (d : List ℕ) → HeldBy d (canonical name) t → policy ≡ 0 → d ≡ dhcid) } ∷ []
+
+-- Remove: 12, 40, 9, 15, 16, 33, 31, 30, 34
+abbrev pub removeTests : List ℕ → List ℕ → List ℕ → ℕ → List ℕ → List Test
+removeTests b name dhcid family address =
+    argumentTests 64 (KnownFamily family) b name dhcid family address
+    ++ record { number = nameNotHeld; holds = Of b (Stands (canonical name)) }
+    ∷ record { number = keptByHand; holds = Of b (λ t. ByHand (canonical name) t → ⊥) }
+    ∷ record { number = heldByAnother; holds = Of b (HeldBy dhcid (canonical name)) }
+    ∷ record { number = addressDiffers; holds = Of b (λ t. (e : TableEntry) → find (canonical name) t ≡ some e → addressOf (familyOf family) e ≡ some address) } ∷ []
+
+-- Clear: 40, 9, 33
+abbrev pub clearTests : List ℕ → List ℕ → List Test
+clearTests b name = nameTests 64 b name ++ record { number = nameNotHeld; holds = Of b (Stands (canonical name)) } ∷ []
+
+-- Writing: 40, 13
+abbrev pub writeTests : List ℕ → List ℕ → List Test
+writeTests b out =
+    record { number = tableNotSound; holds = Sound 64 b } ∷ record { number = outputShort; holds = Of b (λ t. length (listingOf t) ≤ length out) } ∷ []
+
+-- Loading: the faults of reading, then 35, 32, and 13 for an area that is too short
+unfoldable pub LoadFault : List ℕ → List ℕ → ℕ → ℕ → Type 0
+LoadFault t area n place = ListingFault t n place ⊎ ((rs : List ResourceRecord) × Checked 65536 t (accepted rs) × InOrder (loadTests 64 rs area) n place)
