@@ -1,29 +1,35 @@
 -- An answer is a refusal exactly if the input is bad: from what a call promises to demand 1's `Refuses`. Assumes nothing.
 use Prim.Native.Nat.{ℕ, _^_, _<_}
+use mathlib.Core.Bool.{Bool, true, _&&_}
 use mathlib.Core.Path.{_≡_, refl, sym, ap, ap₂, subst, _∙_}
-use mathlib.Core.List.{List, _++_}
+use mathlib.Core.Logic.{inl, inr}
+use mathlib.Core.List.{List, [], _∷_, _++_}
+use lib.Dec.{ltb}
+use borrow.Author.Tests.{ltb-true}
 use native.Mathlib.Omega.{arith}
 use Rattle.base.specs.Answer.{number, offset, forC, Fits}
 use Rattle.base.specs.Order.{Test, AllHold, FirstFault}
 use Rattle.base.specs.declared.Answer.{Answer}
 use Rattle.base.specs.declared.Answer.the-variants.{Accepted, Refused}
+use Rattle.base.proofs.Tests.{and-left, and-right}
 use Rattle.base.proofs.OrderLaws.{fault-after, hold-both}
 use Rattle.base.proofs.Theorems.{taken-apart, one-fault, no-fault}
 use Rattle.base.proofs.AnswerLaws.{accepted≢refused}
 use Rattle.demands.specs.Faults.{InOrder}
-use Rattle.demands.specs.Demand1.{Refuses, ToldC}
+use Rattle.demands.specs.Demand1.{Refuses}
+use Rattle.demands.specs.Told.{ToldC}
 
 -- accepted, and the input is not bad; or refused as it is bad, and it is bad in one way
 pub data Judged (Fault : ℕ → ℕ → Type 0) (a : Answer) : Type 0 where
-  good : (v : ℕ) → a ≡ Accepted v → ((n place : ℕ) → Fault n place → ⊥) → Judged Fault a
-  bad : (m at : ℕ) → a ≡ Refused m at → Fault m at → ((n place : ℕ) → Fault n place → (m ≡ n) × (at ≡ place)) → Judged Fault a
+  good : (v : ℕ) → a ≡ Accepted v → ((n at : ℕ) → Fault n at → ⊥) → Judged Fault a
+  bad : (n at : ℕ) → a ≡ Refused n at → Fault n at → ((m p : ℕ) → Fault m p → (n ≡ m) × (at ≡ p)) → Judged Fault a
 
 pub refuses : {Fault : ℕ → ℕ → Type 0} {a : Answer} → Judged Fault a → Refuses Fault a
 unfolding Refuses
-refuses (Judged.good v e none) n place = (λ r. absurd (accepted≢refused (sym e ∙ r)), λ f. absurd (none n place f))
-refuses {Fault} (Judged.bad m at e f one) n place = (
-  λ r. subst (Fault n) (ap offset (sym e ∙ r)) (subst (λ (k : ℕ). Fault k at) (ap number (sym e ∙ r)) f),
-  λ g. let same = one n place g in e ∙ ap₂ Refused (same .0) (same .1),
+refuses (Judged.good v e none) m p = (λ r. absurd (accepted≢refused (sym e ∙ r)), λ f. absurd (none m p f))
+refuses {Fault} (Judged.bad n at e f one) m p = (
+  λ r. subst (Fault m) (ap offset (sym e ∙ r)) (subst (λ (k : ℕ). Fault k at) (ap number (sym e ∙ r)) f),
+  λ g. let same = one m p g in e ∙ ap₂ Refused (same .0) (same .1),
 )
 
 -- ---- tests in a row
@@ -39,23 +45,39 @@ after ts us h (InRow.passed v e small k) = InRow.passed v e small (hold-both ts 
 after ts us h (InRow.failed n e f) = InRow.failed n e (fault-after ts us n h f)
 
 pub by-order : {a : Answer} (ts : List Test) → InRow a ts → Refuses (InOrder ts) a
-by-order ts (InRow.passed v e small h) = refuses (Judged.good v e (λ n place f. no-fault ts n h (f .0)))
-by-order ts (InRow.failed n e f) = refuses (Judged.bad n 0 e (f, refl) (λ m place g. (one-fault ts n m f (g .0), sym (g .1))))
+by-order ts (InRow.passed v e small h) = refuses (Judged.good v e (λ n at f. no-fault ts n h (f .0)))
+by-order ts (InRow.failed n e f) = refuses (Judged.bad n 0 e (f, refl) (λ m at g. (one-fault ts n m f (g .0), sym (g .1))))
 
 -- ---- what C gets
 
-pub fits-accepted : (v : ℕ) → v < 2 ^ 32 → Fits (Accepted v)
-fits-accepted v h = record { small-value = h; small-offset = omega arith }
+-- value and offset have 32 bits, and a refusal has a number
+pub record Tellable (a : Answer) : Type 0 where
+  pub fits : Fits a
+  pub numbered : (at : ℕ) → a ≡ Refused 0 at → ⊥
 
-pub fits-refused : (n place : ℕ) → place < 2 ^ 32 → Fits (Refused n place)
-fits-refused n place h = record { small-value = omega arith; small-offset = h }
+pub tellable-accepted : (v : ℕ) → v < 2 ^ 32 → Tellable (Accepted v)
+tellable-accepted v h = record { fits = record { small-value = h; small-offset = omega arith }; numbered = λ p e. accepted≢refused e }
 
-pub fits-as : {a b : Answer} → a ≡ b → Fits b → Fits a
-fits-as e f = subst Fits (sym e) f
+pub tellable-refused : (n at : ℕ) → 0 < n → at < 2 ^ 32 → Tellable (Refused n at)
+tellable-refused n at more h = record { fits = record { small-value = omega arith; small-offset = h }; numbered = λ p e. omega (arith, ap number e) }
 
-pub fits-in-row : {a : Answer} {ts : List Test} → InRow a ts → Fits a
-fits-in-row (InRow.passed v e small h) = fits-as e (fits-accepted v small)
-fits-in-row (InRow.failed n e f) = fits-as e (fits-refused n 0 (omega arith))
+pub tellable-as : {a b : Answer} → a ≡ b → Tellable b → Tellable a
+tellable-as e f = subst Tellable (sym e) f
 
-pub told-c : {r : ℕ} {P : Answer → Type 0} (a : Answer) → r ≡ forC a → Fits a → P a → ToldC r P
-told-c a e fits p = record { answer = a; told = e; apart = taken-apart a fits; holds = p }
+-- are the tests' numbers all above 0?
+unfoldable pub positive : List Test → Bool
+positive [] = true
+positive (t ∷ ts) = ltb 0 (t .number) && positive ts
+
+pub fault-positive : (ts : List Test) → positive ts ≡ true → (n : ℕ) → FirstFault ts n → 0 < n
+unfolding positive
+fault-positive [] p n f = absurd f
+fault-positive (t ∷ ts) p n (inl f) = omega (arith, f .1, ltb-true 0 (t .number) (and-left _ _ p))
+fault-positive (t ∷ ts) p n (inr f) = fault-positive ts (and-right (ltb 0 (t .number)) _ p) n (f .1)
+
+pub tellable-in-row : {a : Answer} (ts : List Test) → positive ts ≡ true → InRow a ts → Tellable a
+tellable-in-row ts p (InRow.passed v e small h) = tellable-as e (tellable-accepted v small)
+tellable-in-row ts p (InRow.failed n e f) = tellable-as e (tellable-refused n 0 (fault-positive ts p n f) (omega arith))
+
+pub told-c : {r : ℕ} {P : Answer → Type 0} (a : Answer) → r ≡ forC a → Tellable a → P a → ToldC r P
+told-c a e t p = record { answer = a; told = e; apart = taken-apart a (t .fits); numbered = t .numbered; holds = p }

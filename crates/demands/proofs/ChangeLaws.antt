@@ -17,14 +17,15 @@ use Rattle.slots.specs.Entry.{familyOf}
 use Rattle.slots.specs.Form.{TableEntry, Sound}
 use Rattle.table.specs.Steps.{find}
 use Rattle.table.specs.Calls.{Adds, Removes, Clears}
-use Rattle.table.proofs.Theorems.{sound-add, others-add, order-add, installs, sound-remove, removes-that, removes-if, sound-clear, clears-that, clears-if}
+use Rattle.table.proofs.Theorems.{sound-add, others-add, order-add, installs, installs-so, sound-remove, removes-that, removes-if, sound-clear, clears-that, clears-if}
 use Rattle.records.specs.Written.{listingOf}
 use Rattle.records.specs.Calls.{Writes, Loads}
 use Rattle.records.proofs.Theorems as records
-use Rattle.demands.specs.Demand1.{ToldC}
+use Rattle.demands.specs.Faults.{Stands}
+use Rattle.demands.specs.Told.{ToldC}
 use Rattle.demands.specs.Demand2.{SameTable, SoundAdd, AddsClient, SoundRemove, HoldsAddress, RemovesAddress, SoundClear, ClearsName}
 use Rattle.demands.proofs.AnswerLaws.{told-c}
-use Rattle.demands.proofs.FitsLaws.{load-fits}
+use Rattle.demands.proofs.TellLaws.{load-tells}
 
 pub same-table : (b out : List ℕ) (a : Answer) (left area : List ℕ) (q : Answer) (after : List ℕ) → Every (λ x. x < 256) b → Sound 64 b → 56512 ≤ length out → 19968 ≤ length area
     → Writes 64 b out a left → Loads 65536 64 (take (value a) left) area q after → SameTable b area q after
@@ -55,7 +56,7 @@ module _ (b out left : List ℕ) (s : Sound 64 b) (room : 56512 ≤ length out) 
     same-carried area q after bytes enough (a, e, l) =
         let accepted = done (wrote .0) (wrote .2) .0 in
         let loaded = subst (λ (n : ℕ). Loads 65536 64 (take n left) area a after) (wrote .1 ∙ ap forC accepted ∙ sym (ap value accepted)) l in
-        told-c a e (load-fits (take r left) area a after l) (same-table b out (wrote .0) left area a after bytes s room enough (wrote .2) loaded)
+        told-c a e (load-tells (take r left) area a after l) (same-table b out (wrote .0) left area a after bytes s room enough (wrote .2) loaded)
 
 module _ (b name dhcid : List ℕ) (family : ℕ) (address : List ℕ) where
   pub add-is : (policy : ℕ) (a : Answer) (left : List ℕ) → Adds 64 b name dhcid family address policy a left → SoundAdd b name dhcid family address policy → (s : Sound 64 b)
@@ -65,6 +66,7 @@ module _ (b name dhcid : List ℕ) (family : ℕ) (address : List ℕ) where
       record {
         exactly = installs 64 b name dhcid family address policy a left h args s;
         sound = sound-add 64 b name dhcid family address policy a left h s;
+        so = λ r e i. installs-so 64 b name dhcid family address policy a left h args s (sound-add 64 b name dhcid family address policy a left h s) r e i;
         others = others-add 64 b name dhcid family address policy a left h args s (sound-add 64 b name dhcid family address policy a left h s);
         order = order-add 64 b name dhcid family address policy a left h args s (sound-add 64 b name dhcid family address policy a left h s);
       }
@@ -84,7 +86,7 @@ module _ (b name dhcid : List ℕ) (family : ℕ) (address : List ℕ) where
       }
 
 pub clear-is : (b name : List ℕ) (a : Answer) (left : List ℕ) → Clears 64 b name a left → SoundClear b name → (s : Sound 64 b) → ClearsName (s .table) name a left
-unfolding SoundClear IsAccepted
+unfolding SoundClear IsAccepted Stands
 clear-is b name a left h args s =
     let k = sound-clear 64 b name a left h s in
     record {

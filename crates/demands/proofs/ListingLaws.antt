@@ -13,11 +13,9 @@ use Rattle.base.specs.declared.Answer.the-variants.{Accepted, Refused}
 use Rattle.base.proofs.Theorems.{one-fault, no-fault}
 use Rattle.grammar.specs.Listing.{ResourceRecord}
 use Rattle.grammar.specs.Outcome.{Outcome, accepted, refused, Checked, Answered}
-use Rattle.grammar.proofs.Reader.{check, answer}
-use Rattle.grammar.proofs.ReaderLaws.{checks, answers}
 use Rattle.grammar.proofs.Theorems.{one-check, one-answer}
 use Rattle.entry.specs.declared.Record.{Record}
-use Rattle.listing.specs.Reading.{counted}
+use Rattle.listing.specs.Reading.{counted, Checks}
 use Rattle.listing.specs.Giving.{Last, end, refusal, Gives, Next, Answers}
 use Rattle.listing.specs.declared.Found.{Found}
 use Rattle.listing.specs.declared.Found.the-variants as found
@@ -61,14 +59,14 @@ module _ (R : Outcome → Type 0) (one : (o p : Outcome) → R o → R p → o �
   by-outcome (accepted rs) h e = Judged.good (length rs) e (λ n place k. accepted≢refusal (one (accepted rs) (refused n place) h k))
   by-outcome (refused m at) h e = Judged.bad m at e h (λ n place k. same-refusal (one (refused m at) (refused n place) h k))
 
-pub listing-refuses : (t : List ℕ) (a : Answer) → a ≡ counted (check 65536 t) → Refuses (ListingFault t) a
-unfolding ListingFault
-listing-refuses t a e = refuses (by-outcome (Checked 65536 t) (one-check 65536 t) (check 65536 t) (checks 65536 t) e)
+pub listing-refuses : (t : List ℕ) (a : Answer) → Checks t a → Refuses (ListingFault t) a
+unfolding ListingFault Checks
+listing-refuses t a (o, c, e) = refuses (by-outcome (Checked 65536 t) (one-check 65536 t) o c e)
 
 pub row-refuses : (t : List ℕ) (lent handed : List Record) (a : Answer) → RowRead t lent handed a → Refuses (RowFault (length lent) t) a
 unfolding RowFault
 row-refuses t lent handed a h =
-    refuses (by-outcome (Answered 65536 (length lent) t) (one-answer 65536 (length lent) t) (answer 65536 (length lent) t) (answers 65536 (length lent) t) (h .answered))
+    refuses (by-outcome (Answered 65536 (length lent) t) (one-answer 65536 (length lent) t) (h .outcome) (h .judged) (h .answered))
 
 -- ---- one record at a time
 

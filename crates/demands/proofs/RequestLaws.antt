@@ -16,11 +16,10 @@ use Rattle.message.specs.Request.{identifierBytes}
 use Rattle.message.specs.declared.Request.{Request}
 use Rattle.message4.proofs.Theorems.{one-reading4}
 use Rattle.message6.proofs.Theorems.{one-reading6}
-use Rattle.dhcid.specs.Chosen.{Says, Chooses, nameBytes, placeAnswer}
-use Rattle.dhcid.specs.Choosing.{choose, writingAnswer, writingOutput}
+use Rattle.dhcid.specs.Chosen.{Says, Chooses, nameBytes, Names}
 use Rattle.dhcid.specs.Dhcid.{Writes}
 use Rattle.dhcid.specs.declared.Chosen.{Chosen}
-use Rattle.dhcid.proofs.Theorems.{choice, one-choice, writing}
+use Rattle.dhcid.proofs.Theorems.{one-choice}
 use Rattle.dhcid.proofs.WritingLaws.{place-refused, place-chosen}
 use Rattle.base.proofs.AnswerLaws.{accepted≢refused}
 use Rattle.demands.specs.Faults.{NameFault, dhcidTests, RoomFault, DhcidFault}
@@ -33,27 +32,22 @@ one-request {m = m} {r} {q} (Says.v4 h) (Says.v4 k) = one-reading4 m r q h k
 one-request {m = m} {r} {q} (Says.v6 h) (Says.v6 k) = one-reading6 m r q h k
 
 module _ (family setting : ℕ) (m site : List ℕ) where
-  pub one-name-fault : {n k place at : ℕ} → NameFault family setting m site n place → NameFault family setting m site k at → (n ≡ k) × (place ≡ at)
+  pub one-name-fault : {n k at p : ℕ} → NameFault family setting m site n at → NameFault family setting m site k p → (n ≡ k) × (at ≡ p)
   unfolding NameFault
   one-name-fault (c, h, n, nz, p) (d, j, k, kz, q) = (sym n ∙ ap (λ (e : Chosen). e .refusal) (one-choice family setting m site c d h j) ∙ k, p ∙ sym q)
 
-  pub name-refuses : (a : Answer) → a ≡ placeAnswer (choose family setting m site) → Refuses (NameFault family setting m site) a
-  unfolding NameFault
-  name-refuses a e = refuses (go (eqb (choose family setting m site .refusal) 0) refl)
+  pub name-refuses : (a : Answer) → Names family setting m site a → Refuses (NameFault family setting m site) a
+  unfolding NameFault Names
+  name-refuses a (c, h, e) = refuses (go (eqb (c .refusal) 0) refl)
     where
-      chooses : Chooses family setting m site (choose family setting m site)
-      chooses = choice family setting m site
-
-      go : (b : Bool) → eqb (choose family setting m site .refusal) 0 ≡ b → Judged (NameFault family setting m site) a
+      go : (b : Bool) → eqb (c .refusal) 0 ≡ b → Judged (NameFault family setting m site) a
       go true q =
-          let z = eqb-true (choose family setting m site .refusal) 0 q in
-          Judged.good _ (e ∙ sym (place-chosen (choose family setting m site) z)) (
-          λ n place f. f .3 (sym (f .2) ∙ ap (λ (d : Chosen). d .refusal) (one-choice family setting m site (f .0) (choose family setting m site) (f .1) chooses) ∙ z)
-          )
+          let z = eqb-true (c .refusal) 0 q in
+          Judged.good _ (e ∙ sym (place-chosen c z)) (λ n at f. f .3 (sym (f .2) ∙ ap (λ (d : Chosen). d .refusal) (one-choice family setting m site (f .0) c (f .1) h) ∙ z))
       go false q =
-          let nz = eqb-false (choose family setting m site .refusal) 0 q in
-          let f : NameFault family setting m site (choose family setting m site .refusal) 0 = (choose family setting m site, chooses, refl, nz, refl) in
-          Judged.bad (choose family setting m site .refusal) 0 (e ∙ sym (place-refused (choose family setting m site) nz)) f (λ n place g. one-name-fault f g)
+          let nz = eqb-false (c .refusal) 0 q in
+          let f : NameFault family setting m site (c .refusal) 0 = (c, h, refl, nz, refl) in
+          Judged.bad (c .refusal) 0 (e ∙ sym (place-refused c nz)) f (λ n at g. one-name-fault f g)
 
   module _ (out : List ℕ) where
     tests : Request → Chosen → List Test
@@ -63,7 +57,7 @@ module _ (family setting : ℕ) (m site : List ℕ) where
     same-tests : {r q : Request} {c d : Chosen} → Says family m r → Says family m q → Chooses family setting m site c → Chooses family setting m site d → tests r c ≡ tests q d
     same-tests {r} {q} {c} {d} s t h j = ap₂ tests (one-request s t) (one-choice family setting m site c d h j)
 
-    one-dhcid-fault : {n k place at : ℕ} → DhcidFault family setting m site out n place → DhcidFault family setting m site out k at → (n ≡ k) × (place ≡ at)
+    one-dhcid-fault : {n k at p : ℕ} → DhcidFault family setting m site out n at → DhcidFault family setting m site out k p → (n ≡ k) × (at ≡ p)
     unfolding DhcidFault NameFault RoomFault tests
     one-dhcid-fault (inl f) (inl g) = one-name-fault f g
     one-dhcid-fault (inl (c, h, n, nz, p)) (inr (r, d, s, j, z, g)) = absurd (nz (sym n ∙ ap (λ (e : Chosen). e .refusal) (one-choice family setting m site c d h j) ∙ z))
@@ -77,30 +71,25 @@ module _ (family setting : ℕ) (m site : List ℕ) where
     unfolding DhcidFault NameFault RoomFault tests
     judged (Writes.no-name {c} h nz) =
         let f : DhcidFault family setting m site out (c .refusal) 0 = inl (c, h, refl, nz, refl) in
-        Judged.bad (c .refusal) 0 refl f (λ n place g. one-dhcid-fault f g)
+        Judged.bad (c .refusal) 0 refl f (λ n at g. one-dhcid-fault f g)
     judged (Writes.too-much {r} {c} s h z long) =
         let f : DhcidFault family setting m site out 14 0 = inr (r, c, s, h, z, (inl (λ few. omega arith, refl), refl)) in
-        Judged.bad 14 0 refl f (λ n place g. one-dhcid-fault f g)
+        Judged.bad 14 0 refl f (λ n at g. one-dhcid-fault f g)
     judged (Writes.no-room {r} {c} s h z few short) =
         let f : DhcidFault family setting m site out 13 0 = inr (r, c, s, h, z, (inr (few, inl (λ room. omega arith, refl)), refl)) in
-        Judged.bad 13 0 refl f (λ n place g. one-dhcid-fault f g)
+        Judged.bad 13 0 refl f (λ n at g. one-dhcid-fault f g)
     judged (Writes.written {r} {c} s h z few room) = Judged.good 35 refl none
       where
-        none : (n place : ℕ) → DhcidFault family setting m site out n place → ⊥
-        none n place (inl (d, j, q, nz, p)) = nz (sym q ∙ ap (λ (e : Chosen). e .refusal) (one-choice family setting m site d c j h) ∙ z)
-        none n place (inr (q, d, t, j, w, g)) = no-fault (tests q d) n (subst (λ (ts : List Test). AllHold ts) (same-tests s t h j) (few, (room, tt))) (g .0)
+        none : (n at : ℕ) → DhcidFault family setting m site out n at → ⊥
+        none n at (inl (d, j, q, nz, p)) = nz (sym q ∙ ap (λ (e : Chosen). e .refusal) (one-choice family setting m site d c j h) ∙ z)
+        none n at (inr (q, d, t, j, w, g)) = no-fault (tests q d) n (subst (λ (ts : List Test). AllHold ts) (same-tests s t h j) (few, (room, tt))) (g .0)
 
-    pub dhcid-refuses : (a : Answer) → a ≡ writingAnswer family setting m site out → Refuses (DhcidFault family setting m site out) a
-    dhcid-refuses a e = refuses (subst (Judged (DhcidFault family setting m site out)) (sym e) (judged (writing family setting m site out)))
+    pub dhcid-refuses : (a : Answer) (left : List ℕ) → Writes family setting m site out a left → Refuses (DhcidFault family setting m site out) a
+    dhcid-refuses a left w = refuses (judged w)
 
-    kept : {a : Answer} {left : List ℕ} → Writes family setting m site out a left → Unchanged out left a
+    pub dhcid-unchanged : (a : Answer) (left : List ℕ) → Writes family setting m site out a left → Unchanged out left a
     unfolding Unchanged
-    kept (Writes.no-name h nz) n place e = refl
-    kept (Writes.too-much s h z long) n place e = refl
-    kept (Writes.no-room s h z few short) n place e = refl
-    kept (Writes.written s h z few room) n place e = absurd (accepted≢refused e)
-
-    pub dhcid-unchanged : (a : Answer) (left : List ℕ) → a ≡ writingAnswer family setting m site out → left ≡ writingOutput family setting m site out → Unchanged out left a
-    dhcid-unchanged a left e l =
-        subst (λ (b : Answer). Unchanged out left b) (sym e)
-        (subst (λ (k : List ℕ). Unchanged out k (writingAnswer family setting m site out)) (sym l) (kept (writing family setting m site out)))
+    dhcid-unchanged a left (Writes.no-name h nz) n at e = refl
+    dhcid-unchanged a left (Writes.too-much s h z long) n at e = refl
+    dhcid-unchanged a left (Writes.no-room s h z few short) n at e = refl
+    dhcid-unchanged a left (Writes.written s h z few room) n at e = absurd (accepted≢refused e)

@@ -20,8 +20,8 @@ pub demand-1 : Demand1
 unfolding Unchanged
 demand-1 =
     record {
-      name = λ family setting m site a e. name-refuses family setting m site a e;
-      dhcid = λ family setting m site out a left e l. (dhcid-refuses family setting m site out a e, dhcid-unchanged family setting m site out a left e l);
+      name = name-refuses;
+      dhcid = λ family setting m site out a left w. (dhcid-refuses family setting m site out a left w, dhcid-unchanged family setting m site out a left w);
       listing = listing-refuses;
       row = λ t lent handed a h. (row-refuses t lent handed a h, refused-unchanged t lent handed a h);
       reader = step-refuses;

@@ -1,5 +1,5 @@
 -- The customer's second demand, sentence by sentence.
-use Prim.Native.Nat.{ℕ, _*_, _≤_, _<_}
+use Prim.Native.Nat.{ℕ, _≤_, _<_}
 use mathlib.Core.Path.{_≡_}
 use mathlib.Core.Logic.{_↔_}
 use mathlib.Core.List.{List}
@@ -11,34 +11,36 @@ use Rattle.base.specs.Order.{AllHold}
 use Rattle.base.specs.declared.Answer.{Answer}
 use Rattle.base.specs.declared.Answer.the-variants.{Accepted}
 use Rattle.name.specs.Name.{canonical}
-use Rattle.message.specs.Request.{identifierBytes}
 use Rattle.message.specs.declared.Request.{Request}
-use Rattle.dhcid.specs.Chosen.{Says, Chooses, nameBytes}
-use Rattle.dhcid.specs.Choosing.{writingAnswer, writingOutput}
-use Rattle.dhcid.specs.Dhcid as rfc4701
+use Rattle.dhcid.specs.Chosen.{Says, Chooses}
+use Rattle.dhcid.specs.Dhcid as request
 use Rattle.dhcid.specs.declared.Chosen.{Chosen}
 use Rattle.row.specs.Demand3.{IsAccepted}
 use Rattle.slots.specs.Entry.{familyOf, names, addressOf}
 use Rattle.slots.specs.Form.{TableEntry, Sound}
 use Rattle.table.specs.Steps.{find}
 use Rattle.table.specs.Calls.{KnownFamily, KnownPolicy, nameTests, argumentTests, Adds, Removes, Clears}
-use Rattle.table.specs.Demand2.{others, Ordered, MayInstall, Installed, Deleted, Cleared}
+use Rattle.table.specs.Demand2.{others, Ordered, MayInstall, Installs, Installed, Deleted, Cleared}
 use Rattle.records.specs.Calls.{Writes, Loads}
+use Rattle.demands.specs.Faults.{Stands}
 
 -- ---- "The DHCID of a request and a name is the one RFC 4701 defines."
 
--- the call for a DHCID was accepted: what the output now begins with is the DHCID of the request that the message says and of the name that is chosen (dhcid, specs/Dhcid.antt), 35 bytes; what stands behind them stays
+-- an accepted call has left the DHCID of the request that the message says and of the name that is chosen (dhcid, specs/Dhcid.antt) in the output's first 35 bytes; what stands behind them stays
 pub record IsRfc4701 (family setting : ℕ) (m site out : List ℕ) (a : Answer) (left : List ℕ) : Type 0 where
-  pub length : a ≡ Accepted 35
-  pub dhcid : (r : Request) (c : Chosen) → Says family m r → Chooses family setting m site c
-      → take 35 left ≡ rfc4701.dhcid (r .«id_type») (identifierBytes m r) (nameBytes m site c)
+  pub answered : a ≡ Accepted 35
+  pub asked : Request
+  pub says : Says family m asked
+  pub chosen : Chosen
+  pub chooses : Chooses family setting m site chosen
+  pub dhcid : take 35 left ≡ request.dhcidOf m site asked chosen
   pub rest : drop 35 left ≡ drop 35 out
 
 -- ---- "Every sound table, written as a listing and read again, is the same table."
 
--- the table with the bytes b was written into an output of 56,512 bytes or more, which now holds `left`, and a was answered; what was written was loaded into an area for a table, which now holds `after`, and q was answered
-pub record SameTable (b : List ℕ) (area : List ℕ) (q : Answer) (after : List ℕ) : Type 0 where
-  pub accepted : q ≡ Accepted 0
+-- a listing was loaded into an area for a table, which now holds `after`, and a was answered: the table is the one with the bytes b, and what stands behind it in the area stays
+pub record SameTable (b area : List ℕ) (a : Answer) (after : List ℕ) : Type 0 where
+  pub accepted : a ≡ Accepted 0
   pub same : take 19968 after ≡ b
   pub rest : drop 19968 after ≡ drop 19968 area
 
@@ -51,8 +53,10 @@ SoundAdd b name dhcid family address policy = AllHold (argumentTests 64 (KnownFa
 -- an add to the table with the entries t left `left`, and a was answered
 pub record AddsClient (t : List TableEntry) (name dhcid : List ℕ) (family : ℕ) (address : List ℕ) (policy : ℕ) (a : Answer) (left : List ℕ) : Type 0 where
   pub exactly : Installed 64 left (canonical name) dhcid (familyOf family) address a ↔ MayInstall 64 t (canonical name) dhcid policy
-  -- and no more: every other entry stays, and so does the order
   pub sound : Sound 64 left
+  -- what is then answered, and stands under the name: the other family's address too
+  pub so : (r : Answer) (e : TableEntry) → Installs 64 t (canonical name) dhcid (familyOf family) address policy r e → (a ≡ r) × (find (canonical name) (sound .table) ≡ some e)
+  -- every other entry stays, and so does the order
   pub others : others (canonical name) (sound .table) ≡ others (canonical name) t
   pub order : Ordered (canonical name) (names t) (names (sound .table))
 
@@ -78,21 +82,21 @@ unfoldable pub SoundClear : List ℕ → List ℕ → Type 0
 SoundClear b name = AllHold (nameTests 64 b name)
 
 pub record ClearsName (t : List TableEntry) (name : List ℕ) (a : Answer) (left : List ℕ) : Type 0 where
-  pub exactly : IsAccepted a ↔ ((e : TableEntry) × (find (canonical name) t ≡ some e))
+  pub exactly : IsAccepted a ↔ Stands (canonical name) t
   pub sound : Sound 64 left
   -- that name is gone, and nothing else
   pub cleared : IsAccepted a → (a ≡ Accepted 0) × Cleared t (sound .table) (canonical name)
 
--- ---- the demand
+-- ---- the demand. Each begins with what the calls promise, as in Demand1.antt; that a refused call changes nothing is said there
 
 pub record Demand2 : Type 0 where
-  pub dhcid : (family setting : ℕ) (m site out : List ℕ) (a : Answer) (left : List ℕ)
-      → a ≡ writingAnswer family setting m site out → left ≡ writingOutput family setting m site out → IsAccepted a → IsRfc4701 family setting m site out a left
-  pub same-table : (b out : List ℕ) (a : Answer) (left area : List ℕ) (q : Answer) (after : List ℕ) → Every (λ x. x < 256) b → Sound 64 b → 56512 ≤ length out → 19968 ≤ length area
-      → Writes 64 b out a left → Loads 65536 64 (take (value a) left) area q after → SameTable b area q after
+  pub dhcid : (family setting : ℕ) (m site out : List ℕ) (a : Answer) (left : List ℕ) → request.Writes family setting m site out a left → IsAccepted a
+      → IsRfc4701 family setting m site out a left
+  -- an output of 56,512 bytes, 883 for each name, is long enough for every table; a table has 19,968
+  pub same-table : (b out : List ℕ) (r : Answer) (left area : List ℕ) (a : Answer) (after : List ℕ) → Every (λ x. x < 256) b → Sound 64 b → 56512 ≤ length out → 19968 ≤ length area
+      → Writes 64 b out r left → Loads 65536 64 (take (value r) left) area a after → SameTable b area a after
   pub add : (b name dhcid : List ℕ) (family : ℕ) (address : List ℕ) (policy : ℕ) (a : Answer) (left : List ℕ) → Adds 64 b name dhcid family address policy a left
       → SoundAdd b name dhcid family address policy → (s : Sound 64 b) → AddsClient (s .table) name dhcid family address policy a left
   pub remove : (b name dhcid : List ℕ) (family : ℕ) (address : List ℕ) (a : Answer) (left : List ℕ) → Removes 64 b name dhcid family address a left
       → SoundRemove b name dhcid family address → (s : Sound 64 b) → RemovesAddress (s .table) name dhcid family address a left
-  pub clear : (b name : List ℕ) (a : Answer) (left : List ℕ) → Clears 64 b name a left
-      → SoundClear b name → (s : Sound 64 b) → ClearsName (s .table) name a left
+  pub clear : (b name : List ℕ) (a : Answer) (left : List ℕ) → Clears 64 b name a left → SoundClear b name → (s : Sound 64 b) → ClearsName (s .table) name a left

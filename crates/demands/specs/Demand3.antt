@@ -4,13 +4,9 @@
 --   has places. The grammar is written down without the reader. Any two lists that one listing spells are the same list. What an accepted listing hands us is that list, whole and in order: the count is the
 --   list's length, and the row's places from the first on hold its records in turn."
 use Prim.Native.Nat.{ℕ, _≤_}
-use mathlib.Core.Path.{_≡_}
-use mathlib.Core.Logic.{_↔_}
-use mathlib.Core.List.{List, map}
-use lib.ListN.{length, take}
-use Rattle.base.specs.Answer.{value}
+use mathlib.Core.List.{List}
+use lib.ListN.{length}
 use Rattle.base.specs.declared.Answer.{Answer}
-use Rattle.grammar.specs.Listing.{ResourceRecord, Spells}
 use Rattle.entry.specs.declared.Record.{Record}
 use Rattle.row.specs.Demand3 as row
 use Rattle.row.specs.Row.{RowRead}

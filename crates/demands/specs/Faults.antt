@@ -1,5 +1,5 @@
--- Bad input, call by call: with which number document 01 refuses it, by its order, and at which place. Where an order is a row of numbers it stands here as a row of tests, and the first one that fails
--- decides (base, specs/Order.antt); the orders inside a message and inside a listing are those of the definitions that are named. The place is 0 but for a listing's faulty entry.
+-- Bad input, call by call: with which number document 01 refuses it, by its order, and at which offset. Where an order is a row of numbers it stands here as a row of tests, and the first one that fails
+-- decides (base, specs/Order.antt); the orders inside a message and inside a listing are those of the definitions that are named. The offset, document 01's place, is 0 but for a listing's faulty entry.
 use Prim.Native.Nat.{ℕ, _+_, _≤_, _<_}
 use mathlib.Core.Path.{_≡_}
 use mathlib.Core.Logic.{_⊎_}
@@ -23,15 +23,15 @@ use Rattle.table.specs.Calls.{KnownFamily, KnownPolicy, nameTests, argumentTest
 use Rattle.records.specs.Written.{listingOf}
 use Rattle.records.specs.Calls.{loadTests}
 
--- the first of the tests that fails has the number n; the place is 0
+-- the first of the tests that fails has the number n; the offset is 0
 abbrev pub InOrder : List Test → ℕ → ℕ → Type 0
-InOrder ts n place = FirstFault ts n × (place ≡ 0)
+InOrder ts n offset = FirstFault ts n × (offset ≡ 0)
 
 -- ---- a request
 
 -- the chosen name: 12, the message's refusals, 9 (dhcid, specs/Chosen.antt; message4, specs/Message4.antt; message6, specs/Message6.antt)
 unfoldable pub NameFault : ℕ → ℕ → List ℕ → List ℕ → ℕ → ℕ → Type 0
-NameFault family setting m site n place = (c : Chosen) × Chooses family setting m site c × (c .refusal ≡ n) × (n ≡ 0 → ⊥) × (place ≡ 0)
+NameFault family setting m site n offset = (c : Chosen) × Chooses family setting m site c × (c .refusal ≡ n) × (n ≡ 0 → ⊥) × (offset ≡ 0)
 
 -- and then, for the DHCID: 14, 13
 abbrev pub dhcidTests : ℕ → ℕ → List Test
@@ -39,26 +39,26 @@ dhcidTests hashed room = record { number = hashInputLong; holds = hashed ≤ 409
 
 -- a name is chosen, and then one of these fails
 unfoldable pub RoomFault : ℕ → ℕ → List ℕ → List ℕ → List ℕ → ℕ → ℕ → Type 0
-RoomFault family setting m site out n place =
+RoomFault family setting m site out n offset =
     (r : Request) × (c : Chosen) × Says family m r × Chooses family setting m site c × (c .refusal ≡ 0)
-    × InOrder (dhcidTests (length (identifierBytes m r) + length (nameBytes m site c)) (length out)) n place
+    × InOrder (dhcidTests (length (identifierBytes m r) + length (nameBytes m site c)) (length out)) n offset
 
 unfoldable pub DhcidFault : ℕ → ℕ → List ℕ → List ℕ → List ℕ → ℕ → ℕ → Type 0
-DhcidFault family setting m site out n place = NameFault family setting m site n place ⊎ RoomFault family setting m site out n place
+DhcidFault family setting m site out n offset = NameFault family setting m site n offset ⊎ RoomFault family setting m site out n offset
 
 -- ---- a listing, of at most 65,536 bytes
 
--- read as a whole: 17, then the first faulty entry and its first fault, at the place of its first byte (grammar, specs/Outcome.antt and specs/Faults.antt)
+-- read as a whole: 17, then the first faulty entry and its first fault, at the offset of its first byte (grammar, specs/Outcome.antt and specs/Faults.antt)
 unfoldable pub ListingFault : List ℕ → ℕ → ℕ → Type 0
-ListingFault t n place = Checked 65536 t (refused n place)
+ListingFault t n offset = Checked 65536 t (refused n offset)
 
 -- read into a row of so many places: 25 after all these
 unfoldable pub RowFault : ℕ → List ℕ → ℕ → ℕ → Type 0
-RowFault places t n place = Answered 65536 places t (refused n place)
+RowFault places t n offset = Answered 65536 places t (refused n offset)
 
 -- read one record at a time, from the offset at on: no record is left before the refusal (listing, specs/Giving.antt)
 unfoldable pub StepFault : List ℕ → ℕ → ℕ → ℕ → Type 0
-StepFault t at n place = Gives t at [] (refusal n place)
+StepFault t at n offset = Gives t at [] (refusal n offset)
 
 -- ---- the table, of 64 names
 
@@ -104,4 +104,4 @@ writeTests b out =
 
 -- Loading: the faults of reading, then 35, 32, and 13 for an area that is too short
 unfoldable pub LoadFault : List ℕ → List ℕ → ℕ → ℕ → Type 0
-LoadFault t area n place = ListingFault t n place ⊎ ((rs : List ResourceRecord) × Checked 65536 t (accepted rs) × InOrder (loadTests 64 rs area) n place)
+LoadFault t area n offset = ListingFault t n offset ⊎ ((rs : List ResourceRecord) × Checked 65536 t (accepted rs) × InOrder (loadTests 64 rs area) n offset)

@@ -1,7 +1,7 @@
 -- The public theorems of `dhcid`. Assumes nothing.
 use Prim.Native.Nat.{ℕ, _+_, _≤_, _<_}
 use mathlib.Core.Bool.{true}
-use mathlib.Core.Path.{_≡_, sym, _∙_}
+use mathlib.Core.Path.{_≡_, sym, subst, _∙_}
 use mathlib.Core.List.{List}
 use lib.ListN.{length, take, drop}
 use Rattle.base.specs.Answer.{number}
@@ -15,7 +15,7 @@ use Rattle.message.specs.Request.{Inside, identifierBytes}
 use Rattle.message.specs.declared.Request.{Request}
 use Rattle.dhcid.specs.Chosen.{Says, Chooses, among, nameBytes}
 use Rattle.dhcid.specs.Dhcid.{dhcid, Writes}
-use Rattle.dhcid.specs.Choosing.{choose, writingAnswer, writingOutput}
+use Rattle.dhcid.specs.Choosing.{choose, writingAnswer, writingOutput, Puts}
 use Rattle.dhcid.specs.declared.Chosen.{Chosen}
 use Rattle.dhcid.proofs.SaysLaws.{placed}
 use Rattle.dhcid.proofs.ChoiceLaws.{chooses-choice, choice-chooses, lies}
@@ -50,6 +50,11 @@ module _ (family setting : ℕ) (m site : List ℕ) where
 
   module _ (out : List ℕ) where
     -- what `put_dhcid` promises is what is to be answered and left in the output, and nothing else is
+    pub puts-writes : (a : Answer) (left : List ℕ) → Puts family setting m site out a left → Writes family setting m site out a left
+    puts-writes a left p =
+        subst (λ (b : Answer). Writes family setting m site out b left) (sym (p .answers))
+        (subst (Writes family setting m site out (writingAnswer family setting m site out)) (sym (p .leaves)) (writing-writes family setting m site out))
+
     pub writing : Writes family setting m site out (writingAnswer family setting m site out) (writingOutput family setting m site out)
     writing = writing-writes family setting m site out
 

@@ -78,3 +78,7 @@ answerBy n value = cond (eqb n 0) (Accepted value) (Refused n 0)
 -- the source in bits 30 and 31, the start in bits 8 to 29, the length in bits 0 to 7; or the refusal
 unfoldable pub placeAnswer : Chosen → Answer
 placeAnswer c = answerBy (c .refusal) (sourceNumber (c .«from_site») * 2 ^ 30 + c .part .start * 2 ^ 8 + c .part .len)
+
+-- what the call for the chosen name answers
+unfoldable pub Names : ℕ → ℕ → List ℕ → List ℕ → Answer → Type 0
+Names family setting m site a = (c : Chosen) × Chooses family setting m site c × (a ≡ placeAnswer c)

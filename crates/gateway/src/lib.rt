@@ -1,18 +1,16 @@
 // The library's calls for C, one function each and thin: include/vichrelka.h says how C declares them, and what each answers. A slice is a pointer
 // and a length; what C owes for it is in docs/TRUST.md.
-ghost use mathlib.Core.Path.{_≡_};
-ghost use Rattle.base.specs.Answer.{forC, Tells};
-ghost use Rattle.grammar.proofs.Reader as reader;
-ghost use Rattle.listing.specs.Reading.{limit, counted};
-ghost use Rattle.dhcid.specs.Chosen.{placeAnswer};
-ghost use Rattle.dhcid.specs.Choosing.{choose, writingAnswer, writingOutput};
+ghost use Rattle.base.specs.Answer.{Tells};
+ghost use Rattle.listing.specs.Reading.{limit, Checks};
+ghost use Rattle.dhcid.specs.Chosen.{Names};
+ghost use Rattle.dhcid.specs.Dhcid as request;
 ghost use Rattle.records.specs.Calls.{Writes, Loads};
 ghost use Rattle.table.specs.Calls.{Adds, Removes, Clears};
 
 // uint64_t vichrelka_name(uint32_t family, uint32_t setting, const uint8_t *message, size_t message_len, const uint8_t *site, size_t site_len)
 #[no_mangle]
 pub extern "C" fn vichrelka_name(family: u32, setting: u32, message: &[u8], site: &[u8]) -> u64
-    ensures { λ r. ⌜ r ≡ forC (placeAnswer (choose family setting (now (message .entry)) (now (site .entry)))) ⌝ }
+    ensures { λ r. ⌜ Tells r (λ a. Names family setting (now (message .entry)) (now (site .entry)) a) ⌝ }
 {
     dhcid::place(family, setting, message, site).for_c()
 }
@@ -27,8 +25,7 @@ pub extern "C" fn vichrelka_dhcid<'a>(
     site: &'a [u8],
     out: &mut [u8],
 ) -> u64
-    ensures answer { λ r. ⌜ r ≡ forC (writingAnswer family setting (now (message .entry)) (now (site .entry)) (now (out .entry))) ⌝ }
-    ensures output { λ r. ⌜ now (out .exit) ≡ writingOutput family setting (now (message .entry)) (now (site .entry)) (now (out .entry)) ⌝ }
+    ensures { λ r. ⌜ Tells r (λ a. request.Writes family setting (now (message .entry)) (now (site .entry)) (now (out .entry)) a (now (out .exit))) ⌝ }
 {
     dhcid::put_dhcid(family, setting, message, site, out).for_c()
 }
@@ -36,7 +33,7 @@ pub extern "C" fn vichrelka_dhcid<'a>(
 // uint64_t vichrelka_listing_check(const uint8_t *text, size_t text_len)
 #[no_mangle]
 pub extern "C" fn vichrelka_listing_check(text: &[u8]) -> u64
-    ensures { λ r. ⌜ r ≡ forC (counted (reader.check limit (now (text .entry)))) ⌝ }
+    ensures { λ r. ⌜ Tells r (λ a. Checks (now (text .entry)) a) ⌝ }
 {
     listing::check(text).for_c()
 }

@@ -8,7 +8,7 @@ use Rattle.base.specs.declared.Answer.{Answer}
 use Rattle.base.specs.declared.Answer.the-variants.{Accepted, Refused}
 use Rattle.base.specs.Refusal.{listingLong}
 use Rattle.grammar.specs.Listing.{ResourceRecord}
-use Rattle.grammar.specs.Outcome.{Outcome, accepted, refused}
+use Rattle.grammar.specs.Outcome.{Outcome, accepted, refused, Checked}
 use Rattle.grammar.proofs.Reader.{right, wrong, after, shifted, read}
 use Rattle.entry.specs.EntryIs.{held, noRecord}
 use Rattle.entry.specs.declared.Record.{Record}
@@ -24,6 +24,10 @@ limit = 65536
 abbrev pub counted : Outcome → Answer
 counted (accepted rs) = Accepted (length rs)
 counted (refused n offset) = Refused n offset
+
+-- what the check of the text t answers
+unfoldable pub Checks : List ℕ → Answer → Type 0
+Checks t a = (o : Outcome) × Checked limit t o × (a ≡ counted o)
 
 -- what the text t comes to from at on, by what was found: a record, with what the text comes to after it; the end; or a refusal, and after it the same again
 abbrev pub FoundIs : List ℕ → ℕ → Found → Record → ℕ → Type 0

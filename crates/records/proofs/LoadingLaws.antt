@@ -32,7 +32,7 @@ word-fault-number (WordFault.no-owner w h) = omega arith
 word-fault-number (WordFault.no-type w b o h) = omega arith
 word-fault-number (WordFault.no-data w b o k h) = omega arith
 
-entry-fault-number : {t : List ℕ} {n : ℕ} → Faulty t n → 0 < n
+pub entry-fault-number : {t : List ℕ} {n : ℕ} → Faulty t n → 0 < n
 entry-fault-number (Faulty.shape f) = omega arith
 entry-fault-number (Faulty.last-entry f) = word-fault-number f
 entry-fault-number (Faulty.ended-entry u q f) = word-fault-number f

@@ -12,6 +12,7 @@ use Rattle.grammar.specs.Listing.{ResourceRecord, Spells}
 use Rattle.grammar.specs.Outcome.{Outcome, accepted, refused, Checked, Answered}
 use Rattle.grammar.proofs.Reader.{answer}
 use Rattle.grammar.proofs.ReaderLaws.{answers, answered, accepted-spells, same-list}
+use Rattle.grammar.proofs.Theorems.{one-answer}
 use Rattle.entry.specs.EntryIs.{held}
 use Rattle.entry.specs.declared.Record.{Record}
 use Rattle.listing.specs.Reading.{limit, counted}
@@ -65,10 +66,12 @@ module _ (t : List ℕ) (lent : List Record) (short : length t ≤ limit) where
 
 module _ (t : List ℕ) (lent handed : List Record) (a : Answer) (h : RowRead t lent handed a) where
   pub as-answered : (o : Outcome) → Answered limit (length lent) t o → (a ≡ counted o) × (handed ≡ placed o lent)
-  as-answered o k = (h .answered ∙ ap counted (answered k), h .row ∙ ap (λ (q : Outcome). placed q lent) (answered k))
+  as-answered o k =
+      let same = one-answer limit (length lent) t (h .outcome) o (h .judged) k in
+      (h .answered ∙ ap counted same, h .row ∙ ap (λ (q : Outcome). placed q lent) same)
 
   pub as-lent : (n p : ℕ) → a ≡ Refused n p → handed ≡ lent
-  as-lent n p e = go (answer limit (length lent) t) (sym (h .answered) ∙ e) (h .row)
+  as-lent n p e = go (h .outcome) (sym (h .answered) ∙ e) (h .row)
     where
       go : (o : Outcome) → counted o ≡ Refused n p → handed ≡ placed o lent → handed ≡ lent
       go (accepted rs) k q = absurd (accepted≢refused k)
@@ -77,8 +80,7 @@ module _ (t : List ℕ) (lent handed : List Record) (a : Answer) (h : RowRead t 
   pub beyond-as-lent : drop (value a) handed ≡ drop (value a) lent
   beyond-as-lent =
       subst (λ (b : Answer). drop (value b) handed ≡ drop (value b) lent) (sym (h .answered))
-      (subst (λ (l : List Record). drop (value (counted (answer limit (length lent) t))) l ≡ drop (value (counted (answer limit (length lent) t))) lent) (sym (h .row))
-      (go (answer limit (length lent) t)))
+      (subst (λ (l : List Record). drop (value (counted (h .outcome))) l ≡ drop (value (counted (h .outcome))) lent) (sym (h .row)) (go (h .outcome)))
     where
       go : (o : Outcome) → drop (value (counted o)) (placed o lent) ≡ drop (value (counted o)) lent
       go (accepted rs) = ap (λ (n : ℕ). drop n (placed (accepted rs) lent)) (sym (length-map rs held)) ∙ drop-append-seam (map held rs) _

@@ -145,6 +145,8 @@ pub filled-all : (t : List ℕ) (ys : List Record) (s : Filling) (zs : List Reco
 filled-all t ys s zs h still =
     record {
       demand3 = λ short. subst (λ (l : List Record). Demand3 t ys l (s .answer)) (sym (h .all still)) (subst (Demand3 t ys (placed (answer limit (length ys) t) ys)) (sym (h .answered)) (demand3-met t ys short));
+      outcome = answer limit (length ys) t;
+      judged = answers limit (length ys) t;
       answered = h .answered;
       row = h .all still;
     }

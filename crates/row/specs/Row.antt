@@ -8,8 +8,7 @@ use lib.ListN.{length, drop}
 use Rattle.base.specs.declared.Answer.{Answer}
 use Rattle.base.specs.declared.Answer.the-variants.{Accepted, Refused}
 use Rattle.grammar.specs.Listing.{ResourceRecord}
-use Rattle.grammar.specs.Outcome.{Outcome, accepted, refused}
-use Rattle.grammar.proofs.Reader.{answer}
+use Rattle.grammar.specs.Outcome.{Outcome, accepted, refused, Answered}
 use Rattle.entry.specs.EntryIs.{held}
 use Rattle.entry.specs.declared.Record.{Record}
 use Rattle.listing.specs.Reading.{limit, counted}
@@ -27,9 +26,11 @@ placed (refused n offset) lent = lent
 pub record RowRead (t : List ℕ) (lent handed : List Record) (a : Answer) : Type 0 where
   -- demand 3, for every listing within the limit
   pub demand3 : length t ≤ limit → Demand3 t lent handed a
-  -- and for every listing: the answer, refusals too, and every place, are those of grammar's answer to t and a row of so many places
-  pub answered : a ≡ counted (answer limit (length lent) t)
-  pub row : handed ≡ placed (answer limit (length lent) t) lent
+  -- and for every listing: the answer, refusals too, and every place, are those of what grammar says is answered to t and a row of so many places
+  pub outcome : Outcome
+  pub judged : Answered limit (length lent) t outcome
+  pub answered : a ≡ counted outcome
+  pub row : handed ≡ placed outcome lent
 
 -- ---- how a row is filled, place by place
 

@@ -7,13 +7,14 @@ use mathlib.Core.List.{List, [], _∷_, _++_}
 use mathlib.Core.Option.{Option, none, some, Option·some-injective, Option·some-ne-none, Option·none-ne-some}
 use native.Mathlib.Omega.{arith}
 use lib.ListN.{length}
+use borrow.Author.Tests.{lt-ltb}
 use Rattle.base.specs.Bytes.{eqBytes}
 use Rattle.base.specs.Dhcid.{wellFormed}
 use Rattle.base.specs.Order.{Test, AllHold}
 use Rattle.base.specs.declared.Answer.{Answer}
 use Rattle.base.specs.declared.Answer.the-variants.{Accepted, Refused}
 use Rattle.base.proofs.Lists.{map-append}
-use Rattle.base.proofs.Tests.{eqBytes-true, eq-eqBytes}
+use Rattle.base.proofs.Tests.{eqBytes-true, eq-eqBytes, ne-eqBytes}
 use Rattle.base.proofs.Theorems.{one-fault, no-fault}
 use Rattle.name.specs.Name.{Proper, canonical}
 use Rattle.slots.specs.Effect.{entered, refreshed, takenOver, deleted}
@@ -23,9 +24,9 @@ use Rattle.slots.specs.Promise.{isAddress}
 use Rattle.slots.specs.declared.Family.{Family}
 use Rattle.slots.specs.declared.Family.the-variants.{V4, V6}
 use Rattle.slots.proofs.Theorems.{one-table, one-sound-table}
-use Rattle.table.specs.Steps.{Outcome, find, changed, without, add, remove, clear}
+use Rattle.table.specs.Steps.{Outcome, find, changed, without, acceptedWith, add, remove, clear}
 use Rattle.table.specs.Calls.{Called, KnownPolicy}
-use Rattle.table.specs.Demand2.{others, Ordered, MayInstall, Deleted, Cleared}
+use Rattle.table.specs.Demand2.{others, Ordered, MayInstall, Installs, Deleted, Cleared}
 use Rattle.table.proofs.CaseLaws.{Adding, add-case, Removing, remove-case, Clearing, clear-case}
 use Rattle.table.proofs.OthersLaws.{others-changed, names-changed, find-changed, others-last, find-last, others-without, find-without}
 use Rattle.table.proofs.SoundLaws.{SoundEntries, entered-well-formed, taken-well-formed, refreshed-well-formed, deleted-well-formed, keeps-name, taken-keeps-name, sound-changed, sound-last, sound-without}
@@ -221,6 +222,22 @@ module _ (limit : ℕ) (b : List ℕ) (s : Sound limit b) (n : List ℕ) where
 
     pub add-installs : MayInstall limit (s .table) n d policy → Stands (add limit eqBytes (s .table) n d f x policy)
     add-installs m = installed-by (add limit eqBytes (s .table) n d f x policy) (add-case eqBytes (s .table) n d f x limit policy) m
+
+    -- and answers and leaves under the name what document 01 says
+    outcome-is : {r : Answer} {e : TableEntry} (v : ℕ) (u : List TableEntry) → add limit eqBytes (s .table) n d f x policy ≡ acceptedWith v u → Accepted v ≡ r → find n u ≡ some e
+        → (add limit eqBytes (s .table) n d f x policy .answer ≡ r) × (find n (add limit eqBytes (s .table) n d f x policy .table) ≡ some e)
+    outcome-is v u o a found = (ap (λ (y : Outcome (List ℕ)). y .answer) o ∙ a, ap (λ (y : Outcome (List ℕ)). find n (y .table)) o ∙ found)
+
+    pub add-gives : (r : Answer) (e : TableEntry) → Installs limit (s .table) n d f x policy r e
+        → (add limit eqBytes (s .table) n d f x policy .answer ≡ r) × (find n (add limit eqBytes (s .table) n d f x policy .table) ≡ some e)
+    unfolding add
+    add-gives r e (Installs.unused found room) =
+        outcome-is 0 (s .table ++ entered n d f x ∷ []) (rw (found, lt-ltb (length (s .table)) limit room) refl) refl (find-last n (s .table) (entered n d f x) found (entered-name n d f x))
+    add-gives r e (Installs.same c found holder) =
+        outcome-is 1 (changed n (refreshed f x) (s .table)) (rw (found, holder, eq-eqBytes d d refl) refl) refl (find-changed n (refreshed f x) (keeps-name f (some x)) (s .table) c found)
+    add-gives r e (Installs.latest c k found holder differs p) =
+        outcome-is 2 (changed n (takenOver d f x) (s .table)) (rw (found, holder, ne-eqBytes k d differs, p) refl) refl
+        (find-changed n (takenOver d f x) (taken-keeps-name d f x) (s .table) c found)
 
   -- ---- remove
 

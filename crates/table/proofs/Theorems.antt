@@ -15,7 +15,7 @@ use Rattle.slots.specs.Form.{TableEntry, tableBytes, Sound}
 use Rattle.slots.proofs.Theorems.{one-sound-table}
 use Rattle.table.specs.Steps.{find, add, remove, clear}
 use Rattle.table.specs.Calls.{KnownFamily, KnownPolicy, nameTests, argumentTests, Adds, Removes, Clears}
-use Rattle.table.specs.Demand2.{others, Ordered, MayInstall, Installed, Deleted, Cleared}
+use Rattle.table.specs.Demand2.{others, Ordered, MayInstall, Installs, Installed, Deleted, Cleared}
 use Rattle.table.proofs.CaseLaws.{add-case, remove-case, clear-case}
 use Rattle.table.proofs.DemandLaws.{
   one-call,
@@ -25,6 +25,7 @@ use Rattle.table.proofs.DemandLaws.{
   add-order,
   add-installs,
   may-install,
+  add-gives,
   remove-leaves,
   remove-deletes,
   clear-leaves,
@@ -117,6 +118,18 @@ module _ (limit : ℕ) (b name dhcid : List ℕ) (family : ℕ) (address : List 
                   known = i .known;
                 },
           )
+
+      -- and then this is answered, and stands under the name
+      pub installs-so : (s : Sound limit b) (k : Sound limit left) (q : Answer) (e : TableEntry) → Installs limit (s .table) (canonical name) dhcid (familyOf family) address policy q e
+          → (r ≡ q) × (find (canonical name) (k .table) ≡ some e)
+      unfolding Adds
+      installs-so s k q e i =
+          let c = canonical-form name (args .1 .1 .0) in
+          let w = was-stepped limit (argumentTests limit (KnownFamily family × KnownPolicy policy) b name dhcid family address) b _ r left h args (s .table) (s .slots) in
+          let l = add-leaves limit b s (canonical name) dhcid (familyOf family) address policy (c .proper) (c .again) (args .1 .1 .1 .0) (args .1 .1 .1 .1 .0) in
+          let g = add-gives limit b s (canonical name) dhcid (familyOf family) address policy (c .proper) (c .again) (args .1 .1 .1 .0) (args .1 .1 .1 .1 .0) q e i in
+          let same = one-sound-table limit left (left-sound limit left _ (l .sound) (w .1)) k in
+          (w .0 ∙ g .0, ap (find (canonical name)) (sym same) ∙ g .1)
 
 -- ---- remove
 

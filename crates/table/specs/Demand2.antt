@@ -10,7 +10,7 @@ use lib.ListN.{length}
 use Rattle.base.specs.Bytes.{eqBytes}
 use Rattle.base.specs.declared.Answer.{Answer}
 use Rattle.base.specs.declared.Answer.the-variants.{Accepted}
-use Rattle.slots.specs.Effect.{deleted}
+use Rattle.slots.specs.Effect.{entered, refreshed, takenOver, deleted}
 use Rattle.slots.specs.Entry.{Entry, names, addressOf}
 use Rattle.slots.specs.Form.{TableEntry, Sound}
 use Rattle.slots.specs.declared.Family.{Family}
@@ -32,6 +32,12 @@ pub data MayInstall (limit : ℕ) (t : List TableEntry) (n d : List ℕ) (policy
   unused : find n t ≡ none → length t < limit → MayInstall limit t n d policy
   same : (e : TableEntry) → find n t ≡ some e → e .holder ≡ some d → MayInstall limit t n d policy
   latest : (e : TableEntry) (c : List ℕ) → find n t ≡ some e → e .holder ≡ some c → (c ≡ d → ⊥) → policy ≡ 1 → MayInstall limit t n d policy
+
+-- what is then answered, and what stands under the name: document 01, "Add". A takeover deletes the other family's address, a refresh keeps it
+pub data Installs (limit : ℕ) (t : List TableEntry) (n d : List ℕ) (f : Family) (x : List ℕ) (policy : ℕ) : Answer → TableEntry → Type 0 where
+  unused : find n t ≡ none → length t < limit → Installs limit t n d f x policy (Accepted 0) (entered n d f x)
+  same : (e : TableEntry) → find n t ≡ some e → e .holder ≡ some d → Installs limit t n d f x policy (Accepted 1) (refreshed f x e)
+  latest : (e : TableEntry) (c : List ℕ) → find n t ≡ some e → e .holder ≡ some c → (c ≡ d → ⊥) → policy ≡ 1 → Installs limit t n d f x policy (Accepted 2) (takenOver d f x e)
 
 -- the client with the DHCID d is installed under the name n: the table is sound, the name's entry has that DHCID and that address, and the answer is 0, 1 or 2
 pub record Installed (limit : ℕ) (left n d : List ℕ) (f : Family) (x : List ℕ) (r : Answer) : Type 0 where

@@ -1,6 +1,6 @@
-use mathlib.Core.Path.{refl}
+use Rattle.base.specs.Answer.{Tells}
 use Rattle.demands.proofs.AnswerLaws.{told-c}
-use Rattle.demands.proofs.FitsLaws.{listing-fits}
+use Rattle.demands.proofs.TellLaws.{check-tells}
 use Rattle.demands.proofs.Theorems.{demand-1}
 use borrow.Author.Needs.{needs}
 use Rattle.demands.proofs.listing_check.Statement.{statement}
@@ -10,7 +10,10 @@ vichrelka-listing-check-requires : tie.Need-vichrelka-listing-check-requires
 vichrelka-listing-check-requires c κs = search needs
 
 returns : tie.Need-returns
-returns c = told-c _ (c .vichrelka-listing-check .ensures) (listing-fits _) (demand-1 .listing _ _ refl)
+unfolding Tells
+returns c =
+    let e = c .vichrelka-listing-check .ensures in
+    told-c (e .0) (e .1) (check-tells _ _ (e .2)) (e .2, demand-1 .listing _ _ (e .2))
 
 pub listing-check-spec : {M : Type 1} → statement M
 listing-check-spec = tie.close (tie.spec vichrelka-listing-check-requires returns)

@@ -1,6 +1,6 @@
-use mathlib.Core.Path.{refl}
+use Rattle.base.specs.Answer.{Tells}
 use Rattle.demands.proofs.AnswerLaws.{told-c}
-use Rattle.demands.proofs.FitsLaws.{name-fits}
+use Rattle.demands.proofs.TellLaws.{name-tells}
 use Rattle.demands.proofs.Theorems.{demand-1}
 use borrow.Author.Needs.{needs}
 use Rattle.demands.proofs.name.Statement.{statement}
@@ -10,7 +10,10 @@ vichrelka-name-requires : tie.Need-vichrelka-name-requires
 vichrelka-name-requires c κs = search needs
 
 returns : tie.Need-returns
-returns c = told-c _ (c .vichrelka-name .ensures) (name-fits _ _ _ _) (demand-1 .name _ _ _ _ _ refl)
+unfolding Tells
+returns c =
+    let e = c .vichrelka-name .ensures in
+    told-c (e .0) (e .1) (name-tells _ _ _ _ _ (e .2)) (e .2, demand-1 .name _ _ _ _ _ (e .2))
 
 pub name-spec : {M : Type 1} → statement M
 name-spec = tie.close (tie.spec vichrelka-name-requires returns)

@@ -1,6 +1,8 @@
+use mathlib.Core.Path.{refl}
 use native.Mathlib.Omega.{arith}
 use lib.ListN.{length-take}
 use Rattle.base.proofs.Lists.{every-from}
+use Rattle.demands.specs.Told.{Carried}
 use Rattle.demands.proofs.ChangeLaws.{not-refused, same-carried}
 use borrow.Author.Needs.{needs}
 use Rattle.demands.proofs.table_carried.Statement.{statement}
@@ -13,7 +15,9 @@ same-length : tie.Need-same-length
 same-length c = search needs
 
 returns : tie.Need-returns
-returns c s room enough = absurd (not-refused _ _ _ s room _ (c .before .before .before .vichrelka-table-write .ensures) (c .if1 .taken))
+returns c =
+    let wrote = c .before .before .before .vichrelka-table-write .ensures in
+    (Carried.not-written wrote (c .if1 .taken) refl, λ s room enough. absurd (not-refused _ _ _ s room _ wrote (c .if1 .taken)))
 
 slice-reshare-prefix-vichrelka-table-load : tie.Need-slice-reshare-prefix-vichrelka-table-load
 slice-reshare-prefix-vichrelka-table-load c = search needs
@@ -31,8 +35,12 @@ same-length-3 : tie.Need-same-length-3
 same-length-3 c = search needs
 
 returns-2 : tie.Need-returns-2
-returns-2 c s room enough =
-    same-carried _ _ _ s room _ (c .before .before .before .before .before .before .before .before .vichrelka-table-write .ensures) _ _ _ (every-from _ (λ i. omega (arith, c .before .before .before .before .before .before .before .before .before .before .before .before .shared-slice-known .given i))) enough (c .before .before .vichrelka-table-load .ensures)
+returns-2 c =
+    let wrote = c .before .before .before .before .before .before .before .before .vichrelka-table-write .ensures in
+    let loaded = c .before .before .vichrelka-table-load .ensures in (
+      Carried.loaded _ wrote (c .before .before .before .before .before .if1 .left) loaded,
+      λ s room enough. same-carried _ _ _ s room _ wrote _ _ _ (every-from _ (λ i. omega (arith, c .before .before .before .before .before .before .before .before .before .before .before .before .shared-slice-known .given i))) enough loaded,
+    )
 
 pub table-carried-spec : {M : Type 1} → statement M
 table-carried-spec =

@@ -1,5 +1,6 @@
+use mathlib.Core.Path.{refl}
 use Rattle.base.specs.Answer.{Tells}
-use Rattle.demands.proofs.AnswerLaws.{fits-in-row, told-c}
+use Rattle.demands.proofs.AnswerLaws.{positive, tellable-in-row, told-c}
 use Rattle.demands.proofs.TableLaws.{clear-in-row}
 use Rattle.demands.proofs.Theorems.{demand-1, demand-2}
 use borrow.Author.Needs.{needs}
@@ -13,12 +14,11 @@ same-length : tie.Need-same-length
 same-length c = search needs
 
 returns : tie.Need-returns
-unfolding Tells
+unfolding Tells positive
 returns c =
-    let e = c .before .before .vichrelka-table-clear .ensures in (
-      told-c (e .0) (e .1) (fits-in-row (clear-in-row _ _ _ _ (e .2))) (demand-1 .clear _ _ _ _ (e .2)),
-      told-c (e .0) (e .1) (fits-in-row (clear-in-row _ _ _ _ (e .2))) (demand-2 .clear _ _ _ _ (e .2)),
-    )
+    let e = c .before .before .vichrelka-table-clear .ensures in
+    let one = demand-1 .clear _ _ _ _ (e .2) in
+    told-c (e .0) (e .1) (tellable-in-row _ refl (clear-in-row _ _ _ _ (e .2))) (e .2, one .0, one .1, demand-2 .clear _ _ _ _ (e .2))
 
 pub table-clear-spec : {M : Type 1} → statement M
 table-clear-spec = tie.close (tie.spec vichrelka-table-clear-requires same-length returns)

@@ -1,5 +1,5 @@
-use mathlib.Core.Path.{ap, _∙_}
-use Rattle.base.specs.Answer.{forC}
+use Rattle.base.specs.Answer.{Tells}
+use Rattle.dhcid.proofs.Theorems.{puts-writes}
 use borrow.Author.Needs.{needs}
 use Rattle.gateway.proofs.vichrelka_dhcid.Statement.{statement}
 use Rattle.gateway.proofs.vichrelka_dhcid.Tie as tie
@@ -14,9 +14,10 @@ same-length : tie.Need-same-length
 same-length c = search needs
 
 returns : tie.Need-returns
+unfolding Tells
 returns c =
-    let put = c .before .before .before .put-dhcid .ensures in
-    (c .for-c .ensures ∙ ap forC (put .answers), put .leaves)
+    let put = c .before .before .before .put-dhcid in
+    (put .result, c .for-c .ensures, puts-writes _ _ _ _ _ _ _ (put .ensures))
 
 pub vichrelka-dhcid-spec : {M : Type 1} → statement M
 vichrelka-dhcid-spec = tie.close (tie.spec put-dhcid-requires for-c-requires same-length returns)
