@@ -1,8 +1,7 @@
 -- Demand 2, of the calls that change a table, write it and load it. Assumes nothing.
 use Prim.Native.Nat.{ℕ, _≤_, _<_}
-use mathlib.Core.Path.{_≡_, refl, sym, ap, subst, _∙_}
+use mathlib.Core.Path.{_≡_, sym, ap, subst, _∙_}
 use mathlib.Core.List.{List}
-use mathlib.Core.Option.{some}
 use native.Mathlib.Omega.{arith}
 use lib.ListN.{length, take}
 use Rattle.base.specs.Answer.{value, forC, Tells}
@@ -11,11 +10,8 @@ use Rattle.base.specs.Logic.{Every}
 use Rattle.base.specs.declared.Answer.{Answer}
 use Rattle.base.specs.declared.Answer.the-variants.{Accepted}
 use Rattle.base.proofs.Bytes.{length-overlay}
-use Rattle.name.specs.Name.{canonical}
 use Rattle.row.specs.Demand3.{IsAccepted}
-use Rattle.slots.specs.Entry.{familyOf}
-use Rattle.slots.specs.Form.{TableEntry, Sound}
-use Rattle.table.specs.Steps.{find}
+use Rattle.slots.specs.Form.{Sound}
 use Rattle.table.specs.Calls.{Adds, Removes, Clears}
 use Rattle.table.proofs.Theorems.{sound-add, others-add, order-add, installs, installs-so, sound-remove, removes-that, removes-if, sound-clear, clears-that, clears-if}
 use Rattle.records.specs.Written.{listingOf}
@@ -23,7 +19,7 @@ use Rattle.records.specs.Calls.{Writes, Loads}
 use Rattle.records.proofs.Theorems as records
 use Rattle.demands.specs.Faults.{Stands}
 use Rattle.demands.specs.Told.{ToldC}
-use Rattle.demands.specs.Demand2.{SameTable, SoundAdd, AddsClient, SoundRemove, HoldsAddress, RemovesAddress, SoundClear, ClearsName}
+use Rattle.demands.specs.Demand2.{SameTable, SoundAdd, AddsClient, SoundRemove, RemovesAddress, SoundClear, ClearsName}
 use Rattle.demands.proofs.AnswerLaws.{told-c}
 use Rattle.demands.proofs.TellLaws.{load-tells}
 

@@ -1,7 +1,7 @@
 -- Demand 1, of the calls that read a listing. Assumes nothing.
-use Prim.Native.Nat.{ℕ, _≤_, _<_}
-use mathlib.Core.Bool.{Bool, true, false, true≢false, false≢true}
-use mathlib.Core.Path.{_≡_, refl, sym, ap, ap₂, subst, _∙_}
+use Prim.Native.Nat.{ℕ}
+use mathlib.Core.Bool.{Bool, true, false, false≢true}
+use mathlib.Core.Path.{_≡_, refl, sym, ap, subst, _∙_}
 use mathlib.Core.Logic.{_↔_, inl, inr}
 use mathlib.Core.List.{List, [], _∷_}
 use native.Mathlib.Omega.{arith}
@@ -9,18 +9,18 @@ use lib.ListN.{length}
 use Rattle.base.specs.Answer.{number}
 use Rattle.base.specs.Order.{AllHold, FirstFault}
 use Rattle.base.specs.declared.Answer.{Answer}
-use Rattle.base.specs.declared.Answer.the-variants.{Accepted, Refused}
+use Rattle.base.specs.declared.Answer.the-variants.{Refused}
 use Rattle.base.proofs.Theorems.{one-fault, no-fault}
 use Rattle.grammar.specs.Listing.{ResourceRecord}
 use Rattle.grammar.specs.Outcome.{Outcome, accepted, refused, Checked, Answered}
 use Rattle.grammar.proofs.Theorems.{one-check, one-answer}
 use Rattle.entry.specs.declared.Record.{Record}
 use Rattle.listing.specs.Reading.{counted, Checks}
-use Rattle.listing.specs.Giving.{Last, end, refusal, Gives, Next, Answers}
+use Rattle.listing.specs.Giving.{Last, end, refusal, Gives, Answers}
 use Rattle.listing.specs.declared.Found.{Found}
 use Rattle.listing.specs.declared.Found.the-variants as found
 use Rattle.listing.specs.declared.Step.{Step}
-use Rattle.listing.proofs.Theorems.{some-giving, one-giving}
+use Rattle.listing.proofs.Theorems.{some-giving}
 use Rattle.row.specs.Row.{RowRead}
 use Rattle.records.specs.Calls.{loadTests, Loads}
 use Rattle.demands.specs.Faults.{ListingFault, RowFault, StepFault, LoadFault}

@@ -1,7 +1,4 @@
 -- The customer's three demands (specs/) hold of what the calls promise; each by citation. Assumes nothing.
-use mathlib.Core.List.{List}
-use Rattle.base.specs.declared.Answer.{Answer}
-use Rattle.base.specs.declared.Answer.the-variants.{Accepted, Refused}
 use Rattle.row.proofs.Theorems as row
 use Rattle.row.proofs.Theorems.{refused-unchanged}
 use Rattle.table.proofs.Theorems.{refused-add, refused-remove, refused-clear}

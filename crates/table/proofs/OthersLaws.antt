@@ -3,7 +3,7 @@ use Prim.Native.Nat.{ℕ}
 use mathlib.Core.Bool.{Bool, true, false, cond}
 use mathlib.Core.Path.{_≡_, refl, sym, ap, subst, _∙_}
 use mathlib.Core.List.{List, [], _∷_, _++_}
-use mathlib.Core.Option.{Option, none, some, Option·some-ne-none}
+use mathlib.Core.Option.{none, some, Option·some-ne-none}
 use Rattle.base.specs.Bytes.{eqBytes}
 use Rattle.base.specs.Logic.{Every}
 use Rattle.base.proofs.Tests.{eqBytes-true, eq-eqBytes, ne-eqBytes}

@@ -7,7 +7,7 @@ use mathlib.Core.Option.{Option, none, some}
 use lib.ListN.{length, take, drop, length-append}
 use lib.Seq.{take-add}
 use Rattle.name.specs.Promise.{textOf}
-use Rattle.grammar.specs.Listing.{RecordType, ResourceRecord}
+use Rattle.grammar.specs.Listing.{RecordType}
 use Rattle.entry.specs.Parts.{number}
 use Rattle.writer.specs.Line.{line, lines}
 use Rattle.writer.specs.Parts.{restPart}

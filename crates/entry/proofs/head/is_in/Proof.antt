@@ -1,5 +1,4 @@
 use mathlib.Core.List.{[], _∷_}
-use native.Mathlib.Omega.{arith}
 use Rattle.entry.proofs.HeadLaws.{other-length, two-letters}
 use borrow.Author.Needs.{needs}
 use Rattle.entry.proofs.head.is_in.Statement.{statement}
