@@ -7,7 +7,8 @@ use native.Mathlib.Decide.{decLt}
 use native.Mathlib.Nat.{pow-suc, mul-assoc, mul-le-mul-right, mul-one, pow-succ', lt-of-lt-of-le}
 use native.Mathlib.Omega.{arith}
 use lib.Dec.{leb}
-use lib.ListN.{length, getD, length-append, List·getD-append}
+use lib.ListN.{length, getD, take, length-append, List·getD-append}
+use lib.Seq.{take-at}
 use borrow.Author.Tests.{leb-true, lt-ltb, le-ltb}
 use Rattle.base.specs.Logic.{Every}
 use Rattle.base.proofs.Tests.{and-left, within, over}
@@ -55,6 +56,10 @@ length-decimal (suc k) n = go (decLt n 10) (length-decimal k (n / 10))
     go (no large) ih =
         let ten : 10 ≤ n = omega (arith, large) in
         omega (arith, ap length (decimal-more k n ten), length-append (decimal k (n / 10)) ((48 + n % 10) ∷ []))
+
+-- the digits, from what they begin
+pub digits-first : (k n len : ℕ) (ds z : List ℕ) → (ds ≡ decimal k n ++ z) × (len ≡ length (decimal k n)) → take len ds ≡ decimal k n
+digits-first k n len ds z h = ap (take len) (h .0) ∙ take-at (decimal k n) z len (sym (h .1))
 
 -- ---- what is written in digits is a number
 

@@ -27,8 +27,8 @@ pub record Scanning (f : Form) (w values : List ℕ) (k v n i : ℕ) : Type 0 wh
   pub back : (ms : List ℕ) → From f v n (drop i w) ms → From f 0 0 w (take k values ++ ms)
 
 module _ (f : Form) (usable : Usable f) (w : List ℕ) where
-  pub refused : (r : Numbers) → r .found ≡ false → ((ns : List ℕ) → Fields f w ns → ⊥) → Numbered f w r ⊎ NotNumbered f w r
-  refused r e none = inr (record { none = none; found = e })
+  pub refused : (r : Numbers) → (r .found ≡ false) × (r .values ≡ replicate 8 0) → ((ns : List ℕ) → Fields f w ns → ⊥) → Numbered f w r ⊎ NotNumbered f w r
+  refused r e none = inr (record { none = none; found = e .0; values = e .1 })
 
   pub scanning-none : Scanning f w (replicate 8 0) 0 0 0 0
   scanning-none =

@@ -56,3 +56,4 @@ pub record Numbered (f : Form) (w : List ℕ) (r : Numbers) : Type 0 where
 pub record NotNumbered (f : Form) (w : List ℕ) (r : Numbers) : Type 0 where
   pub none : (ns : List ℕ) → Fields f w ns → ⊥
   pub found : r .found ≡ false
+  pub values : r .values ≡ replicate 8 0

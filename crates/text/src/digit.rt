@@ -1,7 +1,8 @@
 // Digits of numbers.
 ghost use mathlib.Core.Path.{_≡_};
-ghost use Prim.Native.Nat.{_<_};
-ghost use lib.ListN.{length, take};
+ghost use Prim.Native.Nat.{_-_, _<_};
+ghost use mathlib.Core.List.{_++_};
+ghost use lib.ListN.{length, replicate};
 ghost use Rattle.text.specs.Digits as spec;
 
 // The value of a decimal or hexadecimal digit, in either case; 16 for any other byte.
@@ -24,14 +25,14 @@ pub fn hex_digit(v: u8) -> u8
     if v < 10 { v + 48 } else { v + 87 }
 }
 
-// The digits of a byte in decimal: the first `len` of `digits`.
+// The digits of a byte in decimal: the first `len` of `digits`, and zeros after them.
 pub struct DecimalByte {
     pub digits: [u8; 3],
     pub len: usize,
 }
 
 pub fn decimal(n: u8) -> DecimalByte
-    ensures { λ r. ⌜ (take (r .len) (r .digits) ≡ spec.decimal 3 n) × (r .len ≡ length (spec.decimal 3 n)) ⌝ }
+    ensures { λ r. ⌜ (r .digits ≡ spec.decimal 3 n ++ replicate (3 - r .len) 0) × (r .len ≡ length (spec.decimal 3 n)) ⌝ }
 {
     if n < 10 {
         return DecimalByte {

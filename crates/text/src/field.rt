@@ -5,7 +5,7 @@ ghost use mathlib.Core.Path.{_≡_};
 ghost use mathlib.Core.Bool.{false};
 ghost use mathlib.Core.Logic.{_⊎_};
 ghost use Prim.Native.Nat.{_+_, _≤_};
-ghost use lib.ListN.{length};
+ghost use lib.ListN.{length, replicate};
 ghost use Rattle.base.specs.Bytes.{overlay};
 ghost use Rattle.text.specs.Digits.{preceded};
 ghost use Rattle.text.specs.Field as spec;
@@ -59,7 +59,7 @@ fn with_digit(form: Form, value: u32, digits: u8, d: u8) -> u32
 }
 
 fn no_numbers() -> Numbers
-    ensures { λ r. ⌜ r .found ≡ false ⌝ }
+    ensures { λ r. ⌜ (r .found ≡ false) × (r .values ≡ replicate 8 0) ⌝ }
 {
     Numbers {
         found: false,

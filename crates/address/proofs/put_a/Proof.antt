@@ -7,7 +7,7 @@ use lib.ListN.{length, getD, length-take}
 use Rattle.text.specs.Digits.{decimal}
 use Rattle.address.specs.Address.{writtenA}
 use Rattle.text.proofs.PartLaws.{Parted, parted-none, part-fits, parted-more, parted-all}
-use Rattle.text.proofs.DigitLaws.{length-decimal}
+use Rattle.text.proofs.DigitLaws.{length-decimal, digits-first}
 use Rattle.address.proofs.WrittenLaws.{octetParts, length-octets, octet-part}
 use Rattle.address.proofs.put_a.Statement.{statement}
 use Rattle.address.proofs.put_a.Tie as tie
@@ -49,7 +49,7 @@ put-part-requires c κs =
     let l = c .before .before .before .before .before .before .loop in
     let more : l .i < length bs = omega arith in
     part-fits to (a .at) 46 (octetParts bs) (c .before .before .before .before .before .before .before .before .before .pre) (l .to) (l .end) (l .i) (l .inv) (omega (arith, length-octets bs))
-    (decimal 3 (getD bs (l .i) 0)) (octet-part bs (l .i) more) _ (c .before .before .before .decimal .ensures .0)
+    (decimal 3 (getD bs (l .i) 0)) (octet-part bs (l .i) more) _ (digits-first 3 (getD bs (l .i) 0) _ _ _ (c .before .before .before .decimal .ensures))
 
 add-i : tie.Need-add-i Inv-loop μ-loop
 add-i c = omega arith
@@ -66,7 +66,7 @@ loop-again c =
     let l = c .before .before .before .before .before .before .before .before .before .loop in
     let more : l .i < length bs = omega arith in
     parted-more to (a .at) 46 (octetParts bs) (c .before .before .before .before .before .before .before .before .before .before .before .before .pre) (l .to) (l .end) (l .i) (l .inv) (omega (arith, length-octets bs))
-    (decimal 3 (getD bs (l .i) 0)) (octet-part bs (l .i) more) _ _ _ (c .before .before .before .before .before .before .decimal .ensures .0) (c .before .before .put-part .ensures .0) (c .before .before .put-part .ensures .1)
+    (decimal 3 (getD bs (l .i) 0)) (octet-part bs (l .i) more) _ _ _ (digits-first 3 (getD bs (l .i) 0) _ _ _ (c .before .before .before .before .before .before .decimal .ensures)) (c .before .before .put-part .ensures .0) (c .before .before .put-part .ensures .1)
 
 sub-result : tie.Need-sub-result Inv-loop μ-loop
 sub-result c = omega (arith, c .before .loop .inv .ends)

@@ -14,7 +14,7 @@ add-t3 c = search needs
 returns : tie.Need-returns
 returns c =
     let e = decimal-single 2 (c .before .args .n) (omega arith) in
-    (sym e, sym (ap length e))
+    (ap (λ (l : List ℕ). l ++ 0 ∷ 0 ∷ []) (sym e), sym (ap length e))
 
 add-t6 : tie.Need-add-t6
 add-t6 c = search needs
@@ -26,7 +26,7 @@ returns-2 : tie.Need-returns-2
 returns-2 c =
     let n = c .before .before .args .n in
     let e = decimal-more 2 n (omega arith) ∙ ap (λ (l : List ℕ). l ++ (48 + n % 10) ∷ []) (decimal-single 1 (n / 10) (omega arith)) in
-    (sym e, sym (ap length e))
+    (ap (λ (l : List ℕ). l ++ 0 ∷ []) (sym e), sym (ap length e))
 
 add-t12 : tie.Need-add-t12
 add-t12 c = search needs
@@ -44,7 +44,7 @@ returns-3 c =
     decimal-more 2 n (omega arith)
     ∙ ap (λ (l : List ℕ). l ++ (48 + n % 10) ∷ [])
     (decimal-more 1 (n / 10) (omega arith) ∙ ap (λ (l : List ℕ). l ++ (48 + n / 10 % 10) ∷ []) (decimal-single 0 (n / 10 / 10) (omega arith))) in
-    (sym e, sym (ap length e))
+    (ap (λ (l : List ℕ). l ++ []) (sym e), sym (ap length e))
 
 pub decimal-spec : {M : Type 1} → statement M
 decimal-spec =
