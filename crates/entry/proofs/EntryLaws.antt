@@ -84,31 +84,31 @@ module _ (t : List ℕ) (at : ℕ) where
   pub nothing-to-end : content ≡ nothing → ends ≡ atEnd → at ≤ length t → EntryIs t at (nothingBefore (length t))
   unfolding nothingBefore
   nothing-to-end c e fits =
-      record { on = λ h. h; within = omega arith; content = (refl, with-text e ∙ ap (λ (x : Content). followed x (length t - at) (read (drop (length t) t))) c) }
+      record { on = λ h. h; forth = fits; within = omega arith; content = (refl, with-text e ∙ ap (λ (x : Content). followed x (length t - at) (read (drop (length t) t))) c) }
 
   pub nothing-to-line : (next : ℕ) → content ≡ nothing → ends ≡ atLine (drop next t) → at < next → next ≤ length t → EntryIs t at (nothingBefore next)
   unfolding nothingBefore
   nothing-to-line next c e on within =
-      record { on = λ h. on; within = within; content = (refl, at-line next e on within ∙ ap (λ (x : Content). followed x (next - at) (read (drop next t))) c) }
+      record { on = λ h. on; forth = omega arith; within = within; content = (refl, at-line next e on within ∙ ap (λ (x : Content). followed x (next - at) (read (drop next t))) c) }
 
-  pub record-to-end : (r : ResourceRecord) → content ≡ one r → ends ≡ atEnd → EntryIs t at (record { content = the-variants.Record; «record» = held r; next = length t })
-  record-to-end r c e =
-      record { on = λ h. h; within = omega arith; content = (r, refl, with-text e ∙ ap (λ (x : Content). followed x (length t - at) (read (drop (length t) t))) c, one-first _ _ r c) }
+  pub record-to-end : (r : ResourceRecord) → content ≡ one r → ends ≡ atEnd → at ≤ length t → EntryIs t at (record { content = the-variants.Record; «record» = held r; next = length t })
+  record-to-end r c e fits =
+      record { on = λ h. h; forth = fits; within = omega arith; content = (r, refl, with-text e ∙ ap (λ (x : Content). followed x (length t - at) (read (drop (length t) t))) c, one-first _ _ r c) }
 
   pub record-to-line : (r : ResourceRecord) (next : ℕ) → content ≡ one r → ends ≡ atLine (drop next t) → at < next → next ≤ length t
       → EntryIs t at (record { content = the-variants.Record; «record» = held r; next = next })
   record-to-line r next c e on within =
-      record { on = λ h. on; within = within; content = (r, refl, at-line next e on within ∙ ap (λ (x : Content). followed x (next - at) (read (drop next t))) c, one-first _ _ r c) }
+      record { on = λ h. on; forth = omega arith; within = within; content = (r, refl, at-line next e on within ∙ ap (λ (x : Content). followed x (next - at) (read (drop next t))) c, one-first _ _ r c) }
 
-  pub shape-fault : ends ≡ atFault → EntryIs t at (faultBefore entryShape (length t))
+  pub shape-fault : ends ≡ atFault → at ≤ length t → EntryIs t at (faultBefore entryShape (length t))
   unfolding faultBefore
-  shape-fault e = record { on = λ h. h; within = omega arith; content = (refl, refl, in-fault e) }
+  shape-fault e fits = record { on = λ h. h; forth = fits; within = omega arith; content = (refl, refl, in-fault e) }
 
   -- a fault of the words, and the entry's end from a later place on
-  pub word-fault : (n : ℕ) (x : Ending) → content ≡ fault n → ends ≡ x → EntryIs t at (faultBefore (cond (notAtFault x) n entryShape) (length t))
+  pub word-fault : (n : ℕ) (x : Ending) → content ≡ fault n → ends ≡ x → at ≤ length t → EntryIs t at (faultBefore (cond (notAtFault x) n entryShape) (length t))
   unfolding faultBefore
-  word-fault n x c e =
-      record { on = λ h. h; within = omega arith; content = (refl, refl, with-fault n c ∙ ap (λ (y : Ending). wrong [] (cond (notAtFault y) n entryShape) 0) e) }
+  word-fault n x c e fits =
+      record { on = λ h. h; forth = fits; within = omega arith; content = (refl, refl, with-fault n c ∙ ap (λ (y : Ending). wrong [] (cond (notAtFault y) n entryShape) 0) e) }
 
 -- ---- an entry with no words
 
@@ -124,8 +124,8 @@ module _ (t : List ℕ) (at : ℕ) where
   pub no-words-to-end : at ≤ length t → scan plain outside (drop at t) ≡ record { words = []; ending = atEnd } → (r : Entry) → r ≡ nothingBefore (length t) → EntryIs t at r
   no-words-to-end fits e r q = subst (EntryIs t at) (sym q) (nothing-to-end t at (no-content _ e refl) (ap (λ (x : Laid). x .ending) e) fits)
 
-  pub no-words-to-fault : scan plain outside (drop at t) ≡ record { words = []; ending = atFault } → (r : Entry) → r ≡ faultBefore entryShape (length t) → EntryIs t at r
-  no-words-to-fault e r q = subst (EntryIs t at) (sym q) (shape-fault t at (ap (λ (x : Laid). x .ending) e))
+  pub no-words-to-fault : at ≤ length t → scan plain outside (drop at t) ≡ record { words = []; ending = atFault } → (r : Entry) → r ≡ faultBefore entryShape (length t) → EntryIs t at r
+  no-words-to-fault fits e r q = subst (EntryIs t at) (sym q) (shape-fault t at (ap (λ (x : Laid). x .ending) e) fits)
 
 -- ---- the owner
 

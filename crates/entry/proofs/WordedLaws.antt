@@ -1,5 +1,5 @@
 -- What an entry with words comes to, step by step as it is read: owner, head, data, end. Assumes nothing.
-use Prim.Native.Nat.{ℕ, _-_}
+use Prim.Native.Nat.{ℕ, _-_, _≤_}
 use mathlib.Core.Bool.{Bool, true, false, true≢false}
 use mathlib.Core.Path.{_≡_, refl, sym, ap, subst, _∙_}
 use mathlib.Core.List.{List, [], _∷_}
@@ -37,15 +37,18 @@ module _ (t : List ℕ) (at start end : ℕ) (d : Bool) (w : WordAt t at false s
   ends-are : ends t at ≡ scan plain (depthOf d) (drop end t) .ending
   ends-are = word-ends t at false w
 
+  fits : at ≤ length t
+  fits = omega (arith, w .from, w .some, w .within)
+
   -- ---- the owner
 
   pub bad-owner : (r : Entry) → ownerOf owner ≡ none → r ≡ faultyFrom t end d entryOwner → EntryIs t at r
   unfolding faultyFrom
-  bad-owner r e q = subst (EntryIs t at) (sym q) (word-fault t at entryOwner _ (words-are ∙ no-owner owner (wordsAt t end d) first e) ends-are)
+  bad-owner r e q = subst (EntryIs t at) (sym q) (word-fault t at entryOwner _ (words-are ∙ no-owner owner (wordsAt t end d) first e) ends-are fits)
 
   pub bad-first : (r : Entry) → first ≡ false → r ≡ faultyFrom t end d entryOwner → EntryIs t at r
   unfolding faultyFrom
-  bad-first r e q = subst (EntryIs t at) (sym q) (word-fault t at entryOwner _ (words-are ∙ not-first owner (wordsAt t end d) first e) ends-are)
+  bad-first r e q = subst (EntryIs t at) (sym q) (word-fault t at entryOwner _ (words-are ∙ not-first owner (wordsAt t end d) first e) ends-are fits)
 
   module _ (n : List ℕ) (is-first : first ≡ true) (named : ownerOf owner ≡ some n) (h : Head) (head : HeadAt headOf t end d h) where
     -- ---- the head
@@ -63,7 +66,7 @@ module _ (t : List ℕ) (at start end : ℕ) (d : Bool) (w : WordAt t at false s
     unfolding faultyFrom
     bad-type r e q =
         let none-there : headOf (wordsAt t end d) ≡ none = head .found ∙ ap (withRest (wordsAt t (h .at) (h .inside))) (no-type (head .type) (sym (head .is) ∙ e)) in
-        subst (EntryIs t at) (sym q) (word-fault t at entryType _ (words-are ∙ no-head owner (wordsAt t end d) first n is-first named none-there) head-ends)
+        subst (EntryIs t at) (sym q) (word-fault t at entryType _ (words-are ∙ no-head owner (wordsAt t end d) first n is-first named none-there) head-ends fits)
 
     some-type : (k : Option RecordType) → (typeNumber k ≡ 0 → ⊥) → (j : RecordType) × (k ≡ some j)
     some-type none e = absurd (e refl)
@@ -104,7 +107,7 @@ module _ (t : List ℕ) (at start end : ℕ) (d : Bool) (w : WordAt t at false s
       bad-data x e q =
           let gone : ifNone (wordsAt t (r .at) (r .inside)) (rdata .value) ≡ none =
           ap (ifNone (wordsAt t (r .at) (r .inside))) (not-held (rdata .value) (rdata .is) e) ∙ nothing-found (wordsAt t (r .at) (r .inside)) in
-          subst (EntryIs t at) (sym q) (word-fault t at entryData _ (by-data ∙ ap (byRdata n k) gone) data-ends)
+          subst (EntryIs t at) (sym q) (word-fault t at entryData _ (by-data ∙ ap (byRdata n k) gone) data-ends fits)
 
       -- ---- the end
 
@@ -113,10 +116,10 @@ module _ (t : List ℕ) (at start end : ℕ) (d : Bool) (w : WordAt t at false s
       word-left v x q =
           let gone : ifNone (wordsAt t (r .at) (r .inside)) (rdata .value) ≡ none =
           ap (λ (ws : List (List ℕ)). ifNone ws (rdata .value)) (word-words t (r .at) (r .inside) v) in
-          subst (EntryIs t at) (sym q) (word-fault t at entryData _ (by-data ∙ ap (byRdata n k) gone) (data-ends ∙ word-ends t (r .at) (r .inside) v))
+          subst (EntryIs t at) (sym q) (word-fault t at entryData _ (by-data ∙ ap (byRdata n k) gone) (data-ends ∙ word-ends t (r .at) (r .inside) v) fits)
 
       pub shape-left : scan plain (depthOf (r .inside)) (drop (r .at) t) ≡ record { words = []; ending = atFault } → (x : Entry) → x ≡ faultBefore entryShape (length t) → EntryIs t at x
-      shape-left e x q = subst (EntryIs t at) (sym q) (shape-fault t at (data-ends ∙ ap (λ (l : Laid). l .ending) e))
+      shape-left e x q = subst (EntryIs t at) (sym q) (shape-fault t at (data-ends ∙ ap (λ (l : Laid). l .ending) e) fits)
 
       module _ (name rdata35 : List ℕ) (len : ℕ) (padded-name : name ≡ padded n) (long : len ≡ length n) (found : r .found ≡ true) (bytes : rdata35 ≡ r .bytes) where
         value : (bs : List ℕ) × (rdata .value ≡ some bs) × (r .bytes ≡ zeroFilled bs)
@@ -140,7 +143,7 @@ module _ (t : List ℕ) (at start end : ℕ) (d : Bool) (w : WordAt t at false s
             → EntryIs t at (record { content = the-variants.Record; «record» = answered; next = length t })
         good-to-end e =
             subst (λ (x : Record). EntryIs t at (record { content = the-variants.Record; «record» = x; next = length t })) (sym is-it)
-            (record-to-end t at rr (the-record (ap (λ (l : Laid). l .words) e)) (data-ends ∙ ap (λ (l : Laid). l .ending) e))
+            (record-to-end t at rr (the-record (ap (λ (l : Laid). l .words) e)) (data-ends ∙ ap (λ (l : Laid). l .ending) e) fits)
 
         pub good-to-line : (next : ℕ) → LineAt t (r .at) (r .inside) next → EntryIs t at (record { content = the-variants.Record; «record» = answered; next = next })
         good-to-line next l =

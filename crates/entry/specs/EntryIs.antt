@@ -17,7 +17,7 @@ use Rattle.entry.specs.declared.Content.{Content}
 use Rattle.entry.specs.declared.Content.the-variants
 use Rattle.entry.specs.declared.Entry.{Entry}
 
--- the bytes of a record: DESIGN's form of a place in a row
+-- the bytes of a record: the owner in canonical wire form in 255 bytes and the data in 35, each with zeros after it, the owner's length, and the type's number
 unfoldable pub held : ResourceRecord → Record
 held r = record { owner = padded (r .owner); «owner_len» = length (r .owner); rtype = number (r .rtype); rdata = zeroFilled (r .rdata) }
 
@@ -51,5 +51,6 @@ ContentIs t at (the-variants.Fault n) r next = (r ≡ noRecord) × (next ≡ len
 -- the entry e begins at at, and ends before the next one
 pub record EntryIs (t : List ℕ) (at : ℕ) (e : Entry) : Type 0 where
   pub on : at < length t → at < e .next
+  pub forth : at ≤ e .next
   pub within : e .next ≤ length t
   pub content : ContentIs t at (e .content) (e .«record») (e .next)

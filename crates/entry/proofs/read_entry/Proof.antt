@@ -54,7 +54,7 @@ returns-4 : tie.Need-returns-4
 returns-4 c =
     let a = c .before .before .before .before .before .args in
     let x = c .before .before .before .next-word in
-    no-words-to-fault (a .text .now) (a .at) (fault-is (a .text .now) (a .at) false (x .result) (x .ensures) (c .before .enum-told2 .given .1)) (c .fault .result) (c .fault .ensures)
+    no-words-to-fault (a .text .now) (a .at) (c .before .before .before .before .before .pre) (fault-is (a .text .now) (a .at) false (x .result) (x .ensures) (c .before .enum-told2 .given .1)) (c .fault .result) (c .fault .ensures)
 
 pub read-entry-spec : {M : Type 1} → statement M
 read-entry-spec =
