@@ -9,12 +9,12 @@ use slots::Holding;
 use slots::Rtype;
 ghost use mathlib.Core.Path.{_≡_};
 ghost use Prim.Native.Nat.{_≤_};
-ghost use lib.ListN.{length, take};
+ghost use lib.ListN.{length, take, drop};
 ghost use Rattle.base.specs.Bytes.{eqBytes};
 ghost use Rattle.base.specs.Logic.{Decides};
 ghost use Rattle.slots.specs.Entry.{addressOf, addressSize};
-ghost use Rattle.slots.specs.Fields.{inField, there, fieldAt, fieldSize, fieldBit};
-ghost use Rattle.slots.specs.Form.{IsSlot, field};
+ghost use Rattle.slots.specs.Fields.{inField, there, fieldAt, fieldBit};
+ghost use Rattle.slots.specs.Form.{IsSlot};
 ghost use Rattle.slots.specs.Promise.{OfSlot, bitOf, offsetOf, holding, isAddress};
 ghost use Rattle.slots.specs.Promise as spec;
 ghost use Rattle.slots.specs.SlotTests as tests;
@@ -158,7 +158,7 @@ pub fn name_of(slot: &[u8]) -> &[u8]
 // 35 bytes from the first of a record's data on: all of a DHCID's, and of an address its own with what stands behind it.
 pub fn data_from(slot: &[u8], rtype: Rtype) -> &[u8]
     requires { ⌜ IsSlot (now slot) ⌝ }
-    ensures { λ r. ⌜ OfSlot (now (slot .entry)) (λ e. (length (now r) ≡ 35) × (take (fieldSize rtype) (now r) ≡ field (fieldSize rtype) (inField rtype e))) ⌝ }
+    ensures { λ r. ⌜ now r ≡ take 35 (drop (fieldAt rtype) (now (slot .entry))) ⌝ }
 {
     let at = field_offset(rtype);
     &slot[at..at + DHCID_SIZE]

@@ -123,12 +123,12 @@ module _ {e : TableEntry} {b : List ℕ} (s : SlotOf e b) where
   field-at Aaaa = ap (λ (t : List ℕ). take 16 (drop 261 t)) (s .form) ∙ aaaa-of e (s .sizes)
   field-at Dhcid = ap (λ (t : List ℕ). take 35 (drop 277 t)) (s .form) ∙ dhcid-of e (s .sizes)
 
-  -- 35 bytes from a field's first on begin with it
-  pub data-long : (k : Rtype) → length (take 35 (drop (fieldAt k) b)) ≡ 35
-  data-long k = length-take-le 35 (drop (fieldAt k) b) (simp length-drop (omega (arith, long, field-offset-most k)))
-
-  pub data-first : (k : Rtype) → take (fieldSize k) (take 35 (drop (fieldAt k) b)) ≡ field (fieldSize k) (inField k e)
-  data-first k = take-take (fieldSize k) 35 (drop (fieldAt k) b) (field-size-most k) ∙ field-at k
+  -- the 35 bytes x from a field's first on begin with it
+  pub data-first : (k : Rtype) {x : List ℕ} → x ≡ take 35 (drop (fieldAt k) b) → (length x ≡ 35) × (take (fieldSize k) x ≡ field (fieldSize k) (inField k e))
+  data-first k is = (
+    ap length is ∙ length-take-le 35 (drop (fieldAt k) b) (simp length-drop (omega (arith, long, field-offset-most k))),
+    ap (take (fieldSize k)) is ∙ take-take (fieldSize k) 35 (drop (fieldAt k) b) (field-size-most k) ∙ field-at k,
+  )
 
   pub held-flag : isSet 4 (getD b 256 0) ≡ there (e .holder)
   held-flag = field-flag Dhcid

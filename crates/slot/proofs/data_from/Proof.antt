@@ -1,10 +1,9 @@
 use Prim.Native.Nat.{ℕ, _+_, _-_}
-use mathlib.Core.Path.{_≡_, ap, ap₂, _∙_}
+use mathlib.Core.Path.{_≡_, ap₂}
 use denote.Ref.{now}
 use native.Mathlib.Omega.{arith}
-use lib.ListN.{length, take, drop}
-use Rattle.slots.specs.Fields.{fieldSize}
-use Rattle.slots.proofs.EffectLaws.{slot-of, of-slot, long, field-offset-most, data-long, data-first}
+use lib.ListN.{take, drop}
+use Rattle.slots.proofs.EffectLaws.{of-slot, long, field-offset-most}
 use borrow.Author.Needs.{needs}
 use Rattle.slot.proofs.data_from.Statement.{statement}
 use Rattle.slot.proofs.data_from.Tie as tie
@@ -28,11 +27,9 @@ part-result-end c =
 returns : tie.Need-returns
 returns c =
     let start = c .before .before .before in
-    let k = start .args .rtype in
     let at = c .before .field-offset .result in
     let size : at + 35 - at ≡ 35 = omega arith in
-    let part = ap₂ (λ (n o : ℕ). take n (drop o (now (start .args .slot)))) size (c .before .field-offset .ensures) in
-    λ e w form. (ap length part ∙ data-long (slot-of w form) k, ap (take (fieldSize k)) part ∙ data-first (slot-of w form) k)
+    ap₂ (λ (n o : ℕ). take n (drop o (now (start .args .slot)))) size (c .before .field-offset .ensures)
 
 pub data-from-spec : {M : Type 1} → statement M
 data-from-spec =

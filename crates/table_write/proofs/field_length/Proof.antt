@@ -6,6 +6,7 @@ use borrow.Author.Tests.{not-true, not-false}
 use Rattle.name.proofs.WireLaws.{proper-some, proper-short}
 use Rattle.writer.proofs.PartLaws.{rest-most}
 use Rattle.slots.specs.Form.{IsSlot}
+use Rattle.slots.proofs.EffectLaws.{slot-of, of-slot, data-first}
 use Rattle.table_write.proofs.TextLaws.{field-none}
 use Rattle.table_write.proofs.WriteLaws.{line-size}
 use borrow.Author.Needs.{needs}
@@ -35,10 +36,9 @@ data-from-requires : tie.Need-data-from-requires
 data-from-requires c κs = search needs
 
 rest-length-requires : tie.Need-rest-length-requires
-unfolding IsSlot
 rest-length-requires c κs =
-    let h = c .before .before .before .before .before .before .pre in
-    c .data-from .ensures (h .0) (h .1) (h .2) .0
+    let start = c .before .before .before .before .before .before in
+    data-first (of-slot (now (start .args .slot)) (start .pre)) (start .args .rtype) (c .data-from .ensures) .0
 
 add-result : tie.Need-add-result
 unfolding IsSlot
@@ -52,7 +52,7 @@ add-result c =
       ap length (at-name-of .name-of .ensures (h .0) (h .1) (h .2)),
       proper-short (h .0 .name) (h .1 .proper),
       c .rest-length .ensures,
-      rest-most (at-rtype-number .rtype-number .result) (now (c .before .data-from .result)) (c .before .data-from .ensures (h .0) (h .1) (h .2) .0),
+      rest-most (at-rtype-number .rtype-number .result) (now (c .before .data-from .result)) (data-first (of-slot (now (start .args .slot)) h) (start .args .rtype) (c .before .data-from .ensures) .0),
     )
 
 returns-2 : tie.Need-returns-2
@@ -66,7 +66,7 @@ returns-2 c =
     let bs = now (c .before .data-from .result) in
     λ e w form.
     let held = sym (at-has .has .ensures e w form) ∙ not-false (at-has .has .result) (at-if1 .if1 .left) in
-    omega (arith, c .rest-length .ensures, line-size k e bs (at-name-of .name-of .ensures e w form) (at-rtype-number .rtype-number .ensures) held (c .before .data-from .ensures e w form))
+    omega (arith, c .rest-length .ensures, line-size k e bs (at-name-of .name-of .ensures e w form) (at-rtype-number .rtype-number .ensures) held (data-first (slot-of w form) k (c .before .data-from .ensures)))
 
 pub field-length-spec : {M : Type 1} → statement M
 field-length-spec =

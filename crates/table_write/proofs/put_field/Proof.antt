@@ -5,6 +5,7 @@ use lib.ListN.{length}
 use native.Mathlib.Omega.{arith}
 use borrow.Author.Tests.{not-true, not-false}
 use Rattle.name.proofs.WireLaws.{proper-some}
+use Rattle.slots.proofs.EffectLaws.{slot-of, data-first}
 use Rattle.table_write.specs.Promise.{fieldText}
 use Rattle.table_write.proofs.TextLaws.{field-none}
 use Rattle.table_write.proofs.WriteLaws.{puts-none, line-size, line-put, fits-slot}
@@ -38,7 +39,7 @@ put-text-requires c κs =
     let start = at-has .before .before .before in
     let f = start .pre in
     let held = sym (at-has .has .ensures (f .entry) (f .well-formed) (f .form)) ∙ not-false (at-has .has .result) (at-if1 .if1 .left) in
-    let from = c .before .data-from .ensures (f .entry) (f .well-formed) (f .form) in
+    let from = data-first (slot-of (f .well-formed) (f .form)) (start .args .rtype) (c .before .data-from .ensures) in
     let name = at-name-of .name-of .ensures (f .entry) (f .well-formed) (f .form) in
     let size = line-size (start .args .rtype) (f .entry) (now (c .before .data-from .result)) name (at-rtype-number .rtype-number .ensures) held from in
     omega (arith, f .room, size, ap length name, proper-some (f .entry .name) (f .well-formed .proper))
@@ -64,7 +65,7 @@ put-rest-requires c κs =
     let start = at-has .before .before .before in
     let f = start .pre in
     let held = sym (at-has .has .ensures (f .entry) (f .well-formed) (f .form)) ∙ not-false (at-has .has .result) (at-if1 .if1 .left) in
-    let from = at-data-from .data-from .ensures (f .entry) (f .well-formed) (f .form) in
+    let from = data-first (slot-of (f .well-formed) (f .form)) (start .args .rtype) (at-data-from .data-from .ensures) in
     let name = at-name-of .name-of .ensures (f .entry) (f .well-formed) (f .form) in
     let size = line-size (start .args .rtype) (f .entry) (now (at-data-from .data-from .result)) name (at-rtype-number .rtype-number .ensures) held from in
     (from .0, omega (arith, f .room, size, at-put-text .put-text .kept .0))
@@ -74,7 +75,7 @@ rest-length-requires c κs =
     let at-data-from = c .before .before .before .before .before .before .before .before in
     let start = at-data-from .before .before .before .before .before .before .before in
     let f = start .pre in
-    at-data-from .data-from .ensures (f .entry) (f .well-formed) (f .form) .0
+    data-first (slot-of (f .well-formed) (f .form)) (start .args .rtype) (at-data-from .data-from .ensures) .0
 
 add-result : tie.Need-add-result
 add-result c =
@@ -86,7 +87,7 @@ add-result c =
     let start = at-has .before .before .before in
     let f = start .pre in
     let held = sym (at-has .has .ensures (f .entry) (f .well-formed) (f .form)) ∙ not-false (at-has .has .result) (at-if1 .if1 .left) in
-    let from = at-data-from .data-from .ensures (f .entry) (f .well-formed) (f .form) in
+    let from = data-first (slot-of (f .well-formed) (f .form)) (start .args .rtype) (at-data-from .data-from .ensures) in
     let name = at-name-of .name-of .ensures (f .entry) (f .well-formed) (f .form) in
     let size = line-size (start .args .rtype) (f .entry) (now (at-data-from .data-from .result)) name (at-rtype-number .rtype-number .ensures) held from in
     omega (arith, f .room, size, c .rest-length .ensures)
@@ -107,7 +108,7 @@ returns-2 c =
     let a = start .args in
     λ e w form.
     let held = sym (at-has .has .ensures e w form) ∙ not-false (at-has .has .result) (at-if1 .if1 .left) in
-    line-put (a .rtype) e (now (at-data-from .data-from .result)) (at-name-of .name-of .ensures e w form) (at-rtype-number .rtype-number .ensures) held (at-data-from .data-from .ensures e w form)
+    line-put (a .rtype) e (now (at-data-from .data-from .result)) (at-name-of .name-of .ensures e w form) (at-rtype-number .rtype-number .ensures) held (data-first (slot-of w form) (a .rtype) (at-data-from .data-from .ensures))
     (omega (arith, start .pre .room)) refl (at-put-text .put-text .ensures) (at-put-rest .put-rest .ensures) (ap (λ (n : ℕ). start .args .at + (length (now (at-name-of .name-of .result)) - 1) + n) (c .rest-length .ensures))
 
 pub put-field-spec : {M : Type 1} → statement M
