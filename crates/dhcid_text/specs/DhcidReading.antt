@@ -52,7 +52,8 @@ pub record Fresh (f : ℕ) (s : DhcidWords) : Type 0 where
 
 -- ---- base64
 
--- of a quantum (RFC 4648's word for a group of four digits) the first n were read, the digits t: they give the bytes g, and the bits x that the next byte begins with
+-- of a quantum (RFC 4648, 4: 24 bits, which are written in four characters) the first n characters were read, the digits t: they give the bytes g, and the bits x that
+-- the next byte begins with
 pub data Quantum (n x : ℕ) (t g : List ℕ) : Type 0 where
   none : n ≡ 0 → t ≡ [] → g ≡ [] → Quantum n x t g
   one : n ≡ 1 → x < 64 → t ≡ digit64 x ∷ [] → g ≡ [] → Quantum n x t g

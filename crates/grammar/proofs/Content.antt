@@ -1,5 +1,5 @@
--- What the words of an entry come to, found by functions. No definition of specs/ cites them: proofs/ContentLaws.antt proves that they find just what
--- specs/Listing.antt and specs/Faults.antt say.
+-- What the words of an entry come to, found by functions. No definition of this crate's specs/ cites them (other crates' promises do):
+-- proofs/ContentLaws.antt proves that they find just what specs/Listing.antt and specs/Faults.antt say.
 use Prim.Native.Nat.{ℕ}
 use mathlib.Core.Bool.{Bool, false, cond}
 use mathlib.Core.List.{List, [], _∷_, map}

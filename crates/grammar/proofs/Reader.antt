@@ -1,5 +1,5 @@
--- What a text comes to, and what a call answers, found by functions. No definition of specs/ cites them: proofs/ReaderLaws.antt proves that they find just
--- what specs/ says, and that every text comes to something.
+-- What a text comes to, and what a call answers, found by functions. No definition of this crate's specs/ cites them (other crates' promises do):
+-- proofs/ReaderLaws.antt proves that they find just what specs/ says, and that every text comes to something.
 use Prim.Native.Nat.{ℕ, zero, suc, _+_, _-_}
 use mathlib.Core.Bool.{cond}
 use mathlib.Core.List.{List, [], _∷_}

@@ -1,5 +1,5 @@
--- The words of an entry and its end, found by a function that goes over the text once, byte by byte. No definition of specs/ cites it: proofs/ScanLaws.antt
--- proves that it finds just what specs/Listing.antt and specs/Faults.antt say.
+-- The words of an entry and its end, found by a function that goes over the text once, byte by byte. No definition of this crate's specs/ cites it (other
+-- crates' promises do): proofs/ScanLaws.antt proves that it finds just what specs/Listing.antt and specs/Faults.antt say.
 use Prim.Native.Nat.{ℕ}
 use mathlib.Core.Bool.{Bool, true, false}
 use mathlib.Core.List.{List, [], _∷_}

@@ -1,8 +1,8 @@
 // The padding of a message, FIPS 180-4 section 5.1.1.
 use base::slice::put;
 ghost use mathlib.Core.Path.{_≡_};
-ghost use Prim.Native.Nat.{_^_, _*_, _%_, _+_};
-ghost use lib.ListN.{length, take};
+ghost use Prim.Native.Nat.{_+_};
+ghost use lib.ListN.{take};
 ghost use Rattle.base.specs.Bytes.{bigEndian};
 ghost use Rattle.hash.specs.Sha256 as spec;
 

@@ -27,6 +27,6 @@ abbrev pub firstOf : List Located → Option Located
 firstOf [] = none
 firstOf (l ∷ ls) = some l
 
--- the option with a code, which is where everybody gets its data from; none where it is absent. No message in which it is repeated gets here: that is refusal 5
+-- the option with a code; none where it is absent. Where it is repeated it is the first one, and nothing comes of it: such a message is refused with 5
 unfoldable pub optionOf : ℕ → List Located → Option Located
 optionOf code ls = firstOf (having code ls)

@@ -1,4 +1,4 @@
--- DHCPv4 requests. Document 01, "Messages", DHCPv4, and "Names"; RFC 2131, 2 (the header), RFC 2132, 9.6 and 9.14, RFC 4361, 6.1, RFC 4702, 2.
+-- DHCPv4 requests. Document 01, "Messages", DHCPv4, and "Names"; RFC 2131, 2 (the header), RFC 2132, 9.3, 9.6 and 9.14, RFC 4361, 6.1, RFC 4702, 2.
 use Prim.Native.Nat.{ℕ, _+_, _-_, _/_, _%_, _≤_, _<_}
 use mathlib.Core.Bool.{Bool, false, cond, _&&_, _||_}
 use mathlib.Core.Path.{_≡_}
@@ -50,7 +50,7 @@ identifier4 m (some l) =
 identifier4 m none =
     cond (eqb (hlen m) 0) none (some (record { type = 0; head = record { start = 1; len = 1 }; rest = record { start = 28; len = hlen m } }))
 
--- RFC 4702, 2: flags, two bytes of no meaning here, the name. Flag 4 (E) says that it is in wire form
+-- RFC 4702, 2: flags, RCODE1 and RCODE2 (2.2: a server ignores them), the name. Flag 4 (E) says that it is in wire form
 unfoldable pub hasWireName : Located → Bool
 hasWireName l = leb 3 (length (l .bytes)) && eqb (getD (l .bytes) 0 0 / 4 % 2) 1
 

@@ -1,5 +1,5 @@
 -- What a DHCPv4 message says, found by functions, for the promise of `read4`. What a message says is defined in Message4.antt, which cites none of them:
--- proofs/Laws4.antt proves that they find just that, and that every message is answered with something.
+-- proofs/Theorems.antt proves that they find just that, and that every message is answered with something.
 use Prim.Native.Nat.{ℕ, zero, suc}
 use mathlib.Core.Bool.{Bool, cond, _&&_}
 use mathlib.Core.List.{List, [], _∷_}

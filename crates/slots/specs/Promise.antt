@@ -17,7 +17,7 @@ use Rattle.slots.specs.declared.Holding.the-variants.{ByHand, ByThis, By
 abbrev pub OfSlot : List ℕ → (TableEntry → Type 0) → Type 0
 OfSlot s P = (e : TableEntry) → WellFormed e → s ≡ slotBytes e → P e
 
--- the bytes b are a table's, but for names that stand twice
+-- the bytes b are a table's, in which a name may stand twice
 abbrev pub Entries : ℕ → List ℕ → Type 0
 Entries limit b = (t : List TableEntry) × IsTable limit t b
 
@@ -67,7 +67,7 @@ abbrev pub holding : {H : Type 0} → (H → H → Bool) → Option H → H → 
 holding same none h = ByHand
 holding same (some k) h = cond (same k h) ByThis ByAnother
 
--- is the address x the one that there may be?
+-- is x the address, if there is one?
 abbrev pub isAddress : Option (List ℕ) → List ℕ → Bool
 isAddress none x = false
 isAddress (some y) x = eqBytes y x

@@ -97,7 +97,7 @@ pub record SeenIs (t : List ℕ) (at : ℕ) (ns : List (List ℕ)) (s : Seen) : 
 
 -- ---- what a sweep finds over the records rs, after which l comes, with room for so many names; ps is what it leaves of where they stand
 
--- from the offset `at` on, records qs are left of which as much is still to be asked as of rs; and rs have more names than there is room for
+-- from the offset `at` on the records `left` are given, of which as much is still to be asked as of rs; and rs have more names than there is room for
 pub record Beyond (t : List ℕ) (from places : ℕ) (rs : List ResourceRecord) (at : ℕ) : Type 0 where
   pub left : List ResourceRecord
   pub gives : Gives t at left end
