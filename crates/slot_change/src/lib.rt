@@ -26,9 +26,9 @@ ghost use Rattle.slots.specs.Promise as spec;
 ghost use Rattle.slots.specs.Effect as effect;
 
 // The flags with this one set.
-fn raise(bit: u8, flags: u8) -> u8
+fn with_flag(bit: u8, flags: u8) -> u8
     requires { ⌜ (1 ≤ bit) × (flags + bit ≤ 255) ⌝ }
-    ensures { λ r. ⌜ r ≡ spec.raised bit flags ⌝ }
+    ensures { λ r. ⌜ r ≡ spec.flagSet bit flags ⌝ }
 {
     if is_set(bit, flags) {
         flags
@@ -38,9 +38,9 @@ fn raise(bit: u8, flags: u8) -> u8
 }
 
 // The flags with this one not set.
-fn lower(bit: u8, flags: u8) -> u8
+fn without_flag(bit: u8, flags: u8) -> u8
     requires { ⌜ 1 ≤ bit ⌝ }
-    ensures { λ r. ⌜ r ≡ spec.lowered bit flags ⌝ }
+    ensures { λ r. ⌜ r ≡ spec.flagCleared bit flags ⌝ }
 {
     if is_set(bit, flags) {
         flags - bit
@@ -133,7 +133,7 @@ fn put_field(slot: &mut [u8], bit: u8, at: usize, bytes: &[u8])
     requires { ⌜ (length (now slot) ≡ 312) × (at + length (now bytes) ≤ 312) × (1 ≤ bit) × (getD (now slot) 256 0 + bit ≤ 255) ⌝ }
     ensures { λ _. ⌜ now (slot .exit) ≡ fieldPut (now (slot .entry)) bit at (now (bytes .entry)) ⌝ }
 {
-    slot[FLAGS] = raise(bit, slot[FLAGS]);
+    slot[FLAGS] = with_flag(bit, slot[FLAGS]);
     put(slot, at, bytes);
 }
 
@@ -142,7 +142,7 @@ fn clear_field(slot: &mut [u8], bit: u8, at: usize, size: usize)
     requires { ⌜ (length (now slot) ≡ 312) × (at + size ≤ 312) × (1 ≤ bit) ⌝ }
     ensures { λ _. ⌜ now (slot .exit) ≡ fieldCleared (now (slot .entry)) bit at size ⌝ }
 {
-    slot[FLAGS] = lower(bit, slot[FLAGS]);
+    slot[FLAGS] = without_flag(bit, slot[FLAGS]);
     put_zeros(slot, at, size);
 }
 

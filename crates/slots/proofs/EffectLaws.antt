@@ -16,7 +16,7 @@ use Rattle.name.specs.Name.{padded}
 use Rattle.slots.specs.Entry.{addressOf, addressSize, withAddress, withHolder}
 use Rattle.slots.specs.Fields.{bare, there, inField, withField, fieldAt, fieldSize, fieldBit}
 use Rattle.slots.specs.Form.{TableEntry, WellFormed, field, flag, flags, slotBytes, IsSlot}
-use Rattle.slots.specs.Promise.{isSet, raised, lowered, bitOf, offsetOf, fieldPut, fieldCleared, holding, isAddress}
+use Rattle.slots.specs.Promise.{isSet, flagSet, flagCleared, bitOf, offsetOf, fieldPut, fieldCleared, holding, isAddress}
 use Rattle.slots.specs.declared.Family.{Family}
 use Rattle.slots.specs.declared.Family.the-variants.{V4, V6}
 use Rattle.slots.specs.declared.Holding.the-variants.{ByHand, ByThis, ByAnother}
@@ -33,13 +33,13 @@ set-reaches bit v set = by-ltb v bit (λ less. absurd (false≢true (sym (ap (λ
 
 -- the flags v are that of o and the rest
 module _ (bit rest v : ℕ) where
-  raised-is : (o : Option (List ℕ)) → isSet bit v ≡ there o → v ≡ flag bit o + rest → raised bit v ≡ bit + rest
-  raised-is none h e = ap (λ (t : Bool). cond t v (v + bit)) h ∙ omega arith
-  raised-is (some x) h e = ap (λ (t : Bool). cond t v (v + bit)) h ∙ e
+  flag-set-is : (o : Option (List ℕ)) → isSet bit v ≡ there o → v ≡ flag bit o + rest → flagSet bit v ≡ bit + rest
+  flag-set-is none h e = ap (λ (t : Bool). cond t v (v + bit)) h ∙ omega arith
+  flag-set-is (some x) h e = ap (λ (t : Bool). cond t v (v + bit)) h ∙ e
 
-  lowered-is : (o : Option (List ℕ)) → isSet bit v ≡ there o → v ≡ flag bit o + rest → lowered bit v ≡ rest
-  lowered-is none h e = ap (λ (t : Bool). cond t (v - bit) v) h ∙ omega arith
-  lowered-is (some x) h e = ap (λ (t : Bool). cond t (v - bit) v) h ∙ omega arith
+  flag-cleared-is : (o : Option (List ℕ)) → isSet bit v ≡ there o → v ≡ flag bit o + rest → flagCleared bit v ≡ rest
+  flag-cleared-is none h e = ap (λ (t : Bool). cond t (v - bit) v) h ∙ omega arith
+  flag-cleared-is (some x) h e = ap (λ (t : Bool). cond t (v - bit) v) h ∙ omega arith
 
 pub bit-some : (f : Family) → 1 ≤ bitOf f
 bit-some V4 = omega arith
@@ -158,24 +158,24 @@ module _ {e : TableEntry} {b : List ℕ} (s : SlotOf e b) where
   unfolding slotBytes flags fieldPut
   field-put A x size is =
       let v = flags (withField A x e) in
-      let sum : raised 1 (flags e) ≡ v = raised-is 1 (flag 2 (e .aaaa) + flag 4 (e .holder)) (flags e) (e .a) (flag-a e) (omega arith) ∙ omega arith in
+      let sum : flagSet 1 (flags e) ≡ v = flag-set-is 1 (flag 2 (e .aaaa) + flag 4 (e .holder)) (flags e) (e .a) (flag-a e) (omega arith) ∙ omega arith in
       record {
         sizes = record { name = s .sizes .name; a = size; aaaa = s .sizes .aaaa; dhcid = s .sizes .dhcid };
-        form = is ∙ ap (λ (t : List ℕ). overlay t 257 x) (flags-by (raised 1) v sum) ∙ write-a (length (e .name)) _ v _ _ _ (s .sizes) x size;
+        form = is ∙ ap (λ (t : List ℕ). overlay t 257 x) (flags-by (flagSet 1) v sum) ∙ write-a (length (e .name)) _ v _ _ _ (s .sizes) x size;
       }
   field-put Aaaa x size is =
       let v = flags (withField Aaaa x e) in
-      let sum : raised 2 (flags e) ≡ v = raised-is 2 (flag 1 (e .a) + flag 4 (e .holder)) (flags e) (e .aaaa) (flag-aaaa e) (omega arith) ∙ omega arith in
+      let sum : flagSet 2 (flags e) ≡ v = flag-set-is 2 (flag 1 (e .a) + flag 4 (e .holder)) (flags e) (e .aaaa) (flag-aaaa e) (omega arith) ∙ omega arith in
       record {
         sizes = record { name = s .sizes .name; a = s .sizes .a; aaaa = size; dhcid = s .sizes .dhcid };
-        form = is ∙ ap (λ (t : List ℕ). overlay t 261 x) (flags-by (raised 2) v sum) ∙ write-aaaa (length (e .name)) _ v _ _ _ (s .sizes) x size;
+        form = is ∙ ap (λ (t : List ℕ). overlay t 261 x) (flags-by (flagSet 2) v sum) ∙ write-aaaa (length (e .name)) _ v _ _ _ (s .sizes) x size;
       }
   field-put Dhcid x size is =
       let v = flags (withField Dhcid x e) in
-      let sum : raised 4 (flags e) ≡ v = raised-is 4 (flag 1 (e .a) + flag 2 (e .aaaa)) (flags e) (e .holder) (flag-dhcid e) (omega arith) ∙ omega arith in
+      let sum : flagSet 4 (flags e) ≡ v = flag-set-is 4 (flag 1 (e .a) + flag 2 (e .aaaa)) (flags e) (e .holder) (flag-dhcid e) (omega arith) ∙ omega arith in
       record {
         sizes = record { name = s .sizes .name; a = s .sizes .a; aaaa = s .sizes .aaaa; dhcid = size };
-        form = is ∙ ap (λ (t : List ℕ). overlay t 277 x) (flags-by (raised 4) v sum) ∙ write-dhcid (length (e .name)) _ v _ _ _ (s .sizes) x size;
+        form = is ∙ ap (λ (t : List ℕ). overlay t 277 x) (flags-by (flagSet 4) v sum) ∙ write-dhcid (length (e .name)) _ v _ _ _ (s .sizes) x size;
       }
 
   pub address-put : (f : Family) (x : List ℕ) {b′ : List ℕ} → length x ≡ addressSize f → b′ ≡ fieldPut b (bitOf f) (offsetOf f) x → SlotOf (withAddress f (some x) e) b′
@@ -189,17 +189,17 @@ module _ {e : TableEntry} {b : List ℕ} (s : SlotOf e b) where
   unfolding slotBytes flags fieldCleared
   address-cleared V4 is =
       let v = flags (withAddress V4 none e) in
-      let sum : lowered 1 (flags e) ≡ v = lowered-is 1 (flag 2 (e .aaaa) + flag 4 (e .holder)) (flags e) (e .a) (flag-a e) (omega arith) ∙ omega arith in
+      let sum : flagCleared 1 (flags e) ≡ v = flag-cleared-is 1 (flag 2 (e .aaaa) + flag 4 (e .holder)) (flags e) (e .a) (flag-a e) (omega arith) ∙ omega arith in
       record {
         sizes = record { name = s .sizes .name; a = refl; aaaa = s .sizes .aaaa; dhcid = s .sizes .dhcid };
-        form = is ∙ ap (λ (t : List ℕ). overlay t 257 (replicate 4 0)) (flags-by (lowered 1) v sum) ∙ write-a (length (e .name)) _ v _ _ _ (s .sizes) (replicate 4 0) refl;
+        form = is ∙ ap (λ (t : List ℕ). overlay t 257 (replicate 4 0)) (flags-by (flagCleared 1) v sum) ∙ write-a (length (e .name)) _ v _ _ _ (s .sizes) (replicate 4 0) refl;
       }
   address-cleared V6 is =
       let v = flags (withAddress V6 none e) in
-      let sum : lowered 2 (flags e) ≡ v = lowered-is 2 (flag 1 (e .a) + flag 4 (e .holder)) (flags e) (e .aaaa) (flag-aaaa e) (omega arith) ∙ omega arith in
+      let sum : flagCleared 2 (flags e) ≡ v = flag-cleared-is 2 (flag 1 (e .a) + flag 4 (e .holder)) (flags e) (e .aaaa) (flag-aaaa e) (omega arith) ∙ omega arith in
       record {
         sizes = record { name = s .sizes .name; a = s .sizes .a; aaaa = refl; dhcid = s .sizes .dhcid };
-        form = is ∙ ap (λ (t : List ℕ). overlay t 261 (replicate 16 0)) (flags-by (lowered 2) v sum) ∙ write-aaaa (length (e .name)) _ v _ _ _ (s .sizes) (replicate 16 0) refl;
+        form = is ∙ ap (λ (t : List ℕ). overlay t 261 (replicate 16 0)) (flags-by (flagCleared 2) v sum) ∙ write-aaaa (length (e .name)) _ v _ _ _ (s .sizes) (replicate 16 0) refl;
       }
 
 -- ---- a name written over zeros

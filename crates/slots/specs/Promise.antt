@@ -38,12 +38,12 @@ abbrev pub isSet : ℕ → ℕ → Bool
 isSet bit v = eqb (v / bit % 2) 1
 
 -- the flags with that one set
-abbrev pub raised : ℕ → ℕ → ℕ
-raised bit v = cond (isSet bit v) v (v + bit)
+abbrev pub flagSet : ℕ → ℕ → ℕ
+flagSet bit v = cond (isSet bit v) v (v + bit)
 
 -- and with that one not set
-abbrev pub lowered : ℕ → ℕ → ℕ
-lowered bit v = cond (isSet bit v) (v - bit) v
+abbrev pub flagCleared : ℕ → ℕ → ℕ
+flagCleared bit v = cond (isSet bit v) (v - bit) v
 
 -- the flag of a family's address, and where in a slot the address stands
 abbrev pub bitOf : Family → ℕ
@@ -56,11 +56,11 @@ offsetOf V6 = 261
 
 -- the slot s with its flag set and the bytes x at index `at`
 unfoldable pub fieldPut : List ℕ → ℕ → ℕ → List ℕ → List ℕ
-fieldPut s bit at x = overlay (set s 256 (raised bit (getD s 256 0))) at x
+fieldPut s bit at x = overlay (set s 256 (flagSet bit (getD s 256 0))) at x
 
 -- and with the flag not set and that many zeros there
 unfoldable pub fieldCleared : List ℕ → ℕ → ℕ → ℕ → List ℕ
-fieldCleared s bit at size = overlay (set s 256 (lowered bit (getD s 256 0))) at (replicate size 0)
+fieldCleared s bit at size = overlay (set s 256 (flagCleared bit (getD s 256 0))) at (replicate size 0)
 
 -- who holds a name, seen from the client h: nobody, so that it is kept by hand; that client; or another
 abbrev pub holding : {H : Type 0} → (H → H → Bool) → Option H → H → Holding

@@ -10,36 +10,36 @@ use Rattle.slots.specs.Promise.{fieldCleared}
 use Rattle.slot_change.proofs.clear_field.Statement.{statement}
 use Rattle.slot_change.proofs.clear_field.Tie as tie
 
-slice-read-lower : tie.Need-slice-read-lower
-slice-read-lower c = search needs
+slice-read-without-flag : tie.Need-slice-read-without-flag
+slice-read-without-flag c = search needs
 
-lower-requires : tie.Need-lower-requires
-lower-requires c κs = search needs
+without-flag-requires : tie.Need-without-flag-requires
+without-flag-requires c κs = search needs
 
 slice-write-slot : tie.Need-slice-write-slot
 slice-write-slot c = search needs
 
 put-zeros-requires : tie.Need-put-zeros-requires
-put-zeros-requires c κs = omega (arith, length-set (now (c .before .before .before .before .args .slot)) 256 (c .before .lower .result))
+put-zeros-requires c κs = omega (arith, length-set (now (c .before .before .before .before .args .slot)) 256 (c .before .without-flag .result))
 
 same-length : tie.Need-same-length
 same-length c =
     let a = c .before .before .before .before .before .before .before .args in
-    let size = length-set (now (a .slot)) 256 (c .before .before .before .before .lower .result) in
-    ap length (c .before .before .put-zeros .ensures) ∙ length-overlay (set (now (a .slot)) 256 (c .before .before .before .before .lower .result)) (a .at) (replicate (a .size) 0) (omega (arith, length-replicate {A = ℕ} (a .size) 0)) ∙ size
+    let size = length-set (now (a .slot)) 256 (c .before .before .before .before .without-flag .result) in
+    ap length (c .before .before .put-zeros .ensures) ∙ length-overlay (set (now (a .slot)) 256 (c .before .before .before .before .without-flag .result)) (a .at) (replicate (a .size) 0) (omega (arith, length-replicate {A = ℕ} (a .size) 0)) ∙ size
 
 returns : tie.Need-returns
 unfolding fieldCleared
 returns c =
     let a = c .before .before .before .before .before .before .before .args in
-    c .before .before .put-zeros .ensures ∙ ap (λ (v : ℕ). overlay (set (now (a .slot)) 256 v) (a .at) (replicate (a .size) 0)) (c .before .before .before .before .lower .ensures)
+    c .before .before .put-zeros .ensures ∙ ap (λ (v : ℕ). overlay (set (now (a .slot)) 256 v) (a .at) (replicate (a .size) 0)) (c .before .before .before .before .without-flag .ensures)
 
 pub clear-field-spec : {M : Type 1} → statement M
 clear-field-spec =
     tie.close
     (tie.spec
-    slice-read-lower
-    lower-requires
+    slice-read-without-flag
+    without-flag-requires
     slice-write-slot
     put-zeros-requires
     same-length

@@ -2,8 +2,8 @@ use mathlib.Core.Path.{sym, _∙_}
 use native.Mathlib.Omega.{arith}
 use borrow.Author.Needs.{needs}
 use Rattle.slots.proofs.EffectLaws.{set-reaches}
-use Rattle.slot_change.proofs.lower.Statement.{statement}
-use Rattle.slot_change.proofs.lower.Tie as tie
+use Rattle.slot_change.proofs.without_flag.Statement.{statement}
+use Rattle.slot_change.proofs.without_flag.Tie as tie
 
 is-set-requires : tie.Need-is-set-requires
 is-set-requires c κs = search needs
@@ -17,5 +17,5 @@ returns c = rw (sym (c .before .is-set .ensures) ∙ c .if1 .taken)
 returns-2 : tie.Need-returns-2
 returns-2 c = rw (sym (c .before .is-set .ensures) ∙ c .if1 .left)
 
-pub lower-spec : {M : Type 1} → statement M
-lower-spec = tie.close (tie.spec is-set-requires sub-result returns returns-2)
+pub without-flag-spec : {M : Type 1} → statement M
+without-flag-spec = tie.close (tie.spec is-set-requires sub-result returns returns-2)
