@@ -6,7 +6,7 @@ ghost use Rattle.base.specs.Bytes.{overlay, eqBytes};
 ghost use Rattle.base.specs.Logic.{Decides};
 
 // Is there nothing but zeros? With no way out before the end, so that many bytes are taken at a turn.
-pub fn is_zero(bytes: &[u8]) -> bool
+pub fn are_zeros_at_once(bytes: &[u8]) -> bool
     ensures { λ r. ⌜ Decides r (now (bytes .entry) ≡ replicate (length (now (bytes .entry))) 0) ⌝ }
 {
     let mut bits: u8 = 0;
@@ -80,8 +80,8 @@ pub fn same(a: &[u8], b: &[u8]) -> bool
 }
 
 // Are these few bytes nothing but zeros? They are if the first is one and each is the same as the next, which is asked a chunk at a time. (Where a part begins at no
-// fixed place, as that after a name does, `is_zero` is compiled to a byte at a turn.)
-pub fn are_zeros(bytes: &[u8]) -> bool
+// fixed place, as that after a name does, `are_zeros_at_once` is compiled to a byte at a turn.)
+pub fn are_zeros_by_chunks(bytes: &[u8]) -> bool
     ensures { λ r. ⌜ Decides r (now (bytes .entry) ≡ replicate (length (now (bytes .entry))) 0) ⌝ }
 {
     let n = bytes.len();

@@ -1,8 +1,8 @@
 // One slot of the table: the name's wire length, the name in 255 bytes, flags, A, AAAA, DHCID. What is absent is zeros. Is it well formed, and what does it hold?
 use base::dhcid::is_well_formed;
 use name::wire::is_canonical;
-use octets::are_zeros;
-use octets::is_zero;
+use octets::are_zeros_at_once;
+use octets::are_zeros_by_chunks;
 use octets::same;
 use slots::Family;
 use slots::Holding;
@@ -59,7 +59,7 @@ fn is_zero_unless_set(bit: u8, flags: u8, field: &[u8]) -> bool
     if is_set(bit, flags) {
         return true;
     }
-    is_zero(field)
+    are_zeros_at_once(field)
 }
 
 // Is this a name as a sound table has it, proper and in canonical form?
@@ -91,7 +91,7 @@ fn are_fields(slot: &[u8]) -> bool
     if is_set(HAS_DHCID, flags) {
         return is_well_formed(dhcid);
     }
-    is_zero(dhcid)
+    are_zeros_at_once(dhcid)
 }
 
 // Is this the slot of an entry that a sound table can have?
@@ -104,7 +104,7 @@ pub fn is_slot(slot: &[u8]) -> bool
         return false;
     }
     // nothing stands after the name
-    if !are_zeros(&slot[end..FLAGS]) {
+    if !are_zeros_by_chunks(&slot[end..FLAGS]) {
         return false;
     }
     are_fields(slot)

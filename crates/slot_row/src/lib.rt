@@ -1,6 +1,6 @@
 // The table: a row of slots, of which the used ones come first.
 use name::wire::matches;
-use octets::is_zero;
+use octets::are_zeros_at_once;
 use octets::put_zeros;
 use octets::same;
 use slot::is_slot;
@@ -29,7 +29,7 @@ fn are_slots(table: &[u8]) -> bool
     while i < SLOTS {
         let at = slot::SIZE * i;
         if table[at] == 0 {
-            return is_zero(&table[at..]);
+            return are_zeros_at_once(&table[at..]);
         }
         if !is_slot(&table[at..at + slot::SIZE]) {
             return false;

@@ -80,8 +80,8 @@ returns-5 c =
     (sym (c .before .before .is-set .ensures) ∙ c .before .if5 .taken)
     (c .is-well-formed .ensures)
 
-is-zero-requires : tie.Need-is-zero-requires
-is-zero-requires c κs = search needs
+are-zeros-at-once-requires : tie.Need-are-zeros-at-once-requires
+are-zeros-at-once-requires c κs = search needs
 
 returns-6 : tie.Need-returns-6
 returns-6 c =
@@ -92,9 +92,9 @@ returns-6 c =
     (omega arith) (omega arith)
     (a .ensures .if-true (not-false (a .result) (c .before .before .before .before .before .before .before .if3 .left)))
     (aaaa .ensures .if-true (not-false (aaaa .result) (c .before .before .before .before .if4 .left)))
-    (c .is-zero .result)
+    (c .are-zeros-at-once .result)
     (sym (c .before .before .is-set .ensures) ∙ c .before .if5 .left)
-    (c .is-zero .ensures)
+    (c .are-zeros-at-once .ensures)
 
 pub are-fields-spec : {M : Type 1} → statement M
 are-fields-spec =
@@ -119,5 +119,5 @@ are-fields-spec =
     is-set-requires
     is-well-formed-requires
     returns-5
-    is-zero-requires
+    are-zeros-at-once-requires
     returns-6)

@@ -37,22 +37,22 @@ returns c =
     let is = c .before .is-held-name in
     no-by (λ h. is .ensures .if-false (not-true (is .result) (c .if1 .taken)) (slot-held-name s (1 + getD s 0 0) refl (omega (arith, c .before .before .before .shared-slice-known2 .given 0)) h))
 
-sub-are-zeros : tie.Need-sub-are-zeros
-sub-are-zeros c = omega (arith, c .before .before .before .shared-slice-known2 .given 0)
+sub-are-zeros-by-chunks : tie.Need-sub-are-zeros-by-chunks
+sub-are-zeros-by-chunks c = omega (arith, c .before .before .before .shared-slice-known2 .given 0)
 
-part-are-zeros-start : tie.Need-part-are-zeros-start
-part-are-zeros-start c = omega (arith, c .before .before .before .shared-slice-known2 .given 0)
+part-are-zeros-by-chunks-start : tie.Need-part-are-zeros-by-chunks-start
+part-are-zeros-by-chunks-start c = omega (arith, c .before .before .before .shared-slice-known2 .given 0)
 
-part-are-zeros-end : tie.Need-part-are-zeros-end
-part-are-zeros-end c = search needs
+part-are-zeros-by-chunks-end : tie.Need-part-are-zeros-by-chunks-end
+part-are-zeros-by-chunks-end c = search needs
 
-are-zeros-requires : tie.Need-are-zeros-requires
-are-zeros-requires c κs = search needs
+are-zeros-by-chunks-requires : tie.Need-are-zeros-by-chunks-requires
+are-zeros-by-chunks-requires c κs = search needs
 
 returns-2 : tie.Need-returns-2
 returns-2 c =
     let s = now (c .before .before .before .before .before .before .before .before .args .slot) in
-    let is = c .before .are-zeros in
+    let is = c .before .are-zeros-by-chunks in
     no-by (λ h. is .ensures .if-false (not-true (is .result) (c .if2 .taken)) (slot-rest s (1 + getD s 0 0) refl (omega (arith, c .before .before .before .before .before .before .shared-slice-known2 .given 0)) h))
 
 are-fields-requires : tie.Need-are-fields-requires
@@ -62,7 +62,7 @@ returns-3 : tie.Need-returns-3
 returns-3 c =
     let s = now (c .before .before .before .before .before .before .before .before .before .args .slot) in
     let name = c .before .before .before .before .before .is-held-name in
-    let rest = c .before .before .are-zeros in
+    let rest = c .before .before .are-zeros-by-chunks in
     decides-as
     (is-slot s (1 + getD s 0 0) refl (omega (arith, c .before .before .before .before .before .before .before .shared-slice-known2 .given 0)) (c .before .before .before .before .before .before .before .before .before .pre)
     (name .ensures .if-true (not-false (name .result) (c .before .before .before .before .if1 .left)))
@@ -82,10 +82,10 @@ is-slot-spec =
     part-is-held-name-end
     is-held-name-requires
     returns
-    sub-are-zeros
-    part-are-zeros-start
-    part-are-zeros-end
-    are-zeros-requires
+    sub-are-zeros-by-chunks
+    part-are-zeros-by-chunks-start
+    part-are-zeros-by-chunks-end
+    are-zeros-by-chunks-requires
     returns-2
     are-fields-requires
     returns-3)

@@ -11,11 +11,11 @@ is-set-requires c κs = search needs
 returns : tie.Need-returns
 returns c = yes-by (λ f. absurd (true≢false (sym (c .if1 .taken) ∙ c .before .is-set .ensures ∙ f)))
 
-is-zero-requires : tie.Need-is-zero-requires
-is-zero-requires c κs = search needs
+are-zeros-at-once-requires : tie.Need-are-zeros-at-once-requires
+are-zeros-at-once-requires c κs = search needs
 
 returns-2 : tie.Need-returns-2
-returns-2 c = decides-as (λ e f. e) (λ h. h (sym (c .before .before .is-set .ensures) ∙ c .before .if1 .left)) (c .is-zero .ensures)
+returns-2 c = decides-as (λ e f. e) (λ h. h (sym (c .before .before .is-set .ensures) ∙ c .before .if1 .left)) (c .are-zeros-at-once .ensures)
 
 pub is-zero-unless-set-spec : {M : Type 1} → statement M
-is-zero-unless-set-spec = tie.close (tie.spec is-set-requires returns is-zero-requires returns-2)
+is-zero-unless-set-spec = tie.close (tie.spec is-set-requires returns are-zeros-at-once-requires returns-2)

@@ -25,17 +25,17 @@ mul-at c = omega arith
 shared-slice-read-if1 : tie.Need-shared-slice-read-if1 Inv-loop μ-loop
 shared-slice-read-if1 c = omega arith
 
-sub-is-zero : tie.Need-sub-is-zero Inv-loop μ-loop
-sub-is-zero c = omega arith
+sub-are-zeros-at-once : tie.Need-sub-are-zeros-at-once Inv-loop μ-loop
+sub-are-zeros-at-once c = omega arith
 
-part-is-zero-start : tie.Need-part-is-zero-start Inv-loop μ-loop
-part-is-zero-start c = omega arith
+part-are-zeros-at-once-start : tie.Need-part-are-zeros-at-once-start Inv-loop μ-loop
+part-are-zeros-at-once-start c = omega arith
 
-part-is-zero-end : tie.Need-part-is-zero-end Inv-loop μ-loop
-part-is-zero-end c = omega arith
+part-are-zeros-at-once-end : tie.Need-part-are-zeros-at-once-end Inv-loop μ-loop
+part-are-zeros-at-once-end c = omega arith
 
-is-zero-requires : tie.Need-is-zero-requires Inv-loop μ-loop
-is-zero-requires c κs = search needs
+are-zeros-at-once-requires : tie.Need-are-zeros-at-once-requires Inv-loop μ-loop
+are-zeros-at-once-requires c κs = search needs
 
 returns : tie.Need-returns Inv-loop μ-loop
 returns c =
@@ -45,7 +45,7 @@ returns c =
     let b = s .args .table .now in
     let i = l .loop .i in
     unused-decides 64 b i (l .loop .inv) (k .before .loop-test .taken) (c .before .before .if1 .taken) (s .pre) _ _
-    (take-all (length b - 312 * i) (drop (312 * i) b) (simp length-drop (omega arith))) (c .is-zero .ensures)
+    (take-all (length b - 312 * i) (drop (312 * i) b) (simp length-drop (omega arith))) (c .are-zeros-at-once .ensures)
 
 add-is-slot : tie.Need-add-is-slot Inv-loop μ-loop
 add-is-slot c = omega arith
@@ -104,10 +104,10 @@ are-slots-spec =
     loop-holds
     mul-at
     shared-slice-read-if1
-    sub-is-zero
-    part-is-zero-start
-    part-is-zero-end
-    is-zero-requires
+    sub-are-zeros-at-once
+    part-are-zeros-at-once-start
+    part-are-zeros-at-once-end
+    are-zeros-at-once-requires
     returns
     add-is-slot
     sub-is-slot

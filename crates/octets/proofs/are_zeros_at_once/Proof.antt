@@ -8,8 +8,8 @@ use lib.Seq.{take-all}
 use borrow.Author.Tests.{eqb-true, eqb-false}
 use Rattle.base.proofs.Lists.{take-more}
 use Rattle.octets.proofs.SameLaws.{or-none}
-use Rattle.octets.proofs.is_zero.Statement.{statement}
-use Rattle.octets.proofs.is_zero.Tie as tie
+use Rattle.octets.proofs.are_zeros_at_once.Statement.{statement}
+use Rattle.octets.proofs.are_zeros_at_once.Tie as tie
 
 -- so many zeros as there are bytes
 abbrev zeros : List ℕ → List ℕ
@@ -64,5 +64,5 @@ returns c =
       if-false = λ f e. eqb-false (l .bits) 0 f (l .inv .back e);
     }
 
-pub is-zero-spec : {M : Type 1} → statement M
-is-zero-spec = tie.close (tie.spec Inv-loop μ-loop loop-holds shared-slice-read-bits add-i loop-less loop-again returns)
+pub are-zeros-at-once-spec : {M : Type 1} → statement M
+are-zeros-at-once-spec = tie.close (tie.spec Inv-loop μ-loop loop-holds shared-slice-read-bits add-i loop-less loop-again returns)

@@ -7,8 +7,8 @@ use lib.ListN.{length, getD, getD-replicate, length-take}
 use borrow.Author.Needs.{needs}
 use Rattle.base.proofs.Tests.{yes-by, no-by}
 use Rattle.octets.proofs.SameLaws.{zeros-none, zeros-decided}
-use Rattle.octets.proofs.are_zeros.Statement.{statement}
-use Rattle.octets.proofs.are_zeros.Tie as tie
+use Rattle.octets.proofs.are_zeros_by_chunks.Statement.{statement}
+use Rattle.octets.proofs.are_zeros_by_chunks.Tie as tie
 
 returns : tie.Need-returns
 returns c = yes-by (zeros-none _ (c .if1 .taken))
@@ -43,8 +43,8 @@ same-requires c κs = search needs
 returns-3 : tie.Need-returns-3
 returns-3 c = zeros-decided _ (c .same .result) (c .before .before .before .if2 .left) (c .same .ensures)
 
-pub are-zeros-spec : {M : Type 1} → statement M
-are-zeros-spec =
+pub are-zeros-by-chunks-spec : {M : Type 1} → statement M
+are-zeros-by-chunks-spec =
     tie.close
     (tie.spec
     returns
