@@ -6,5 +6,5 @@ pub mod LeadLaws
 pub mod ReadingLaws
 pub mod DottedLaws
 pub mod Theorems
-pub mod StrayLaws
+pub mod NotInLabelLaws
 pub mod MatchLaws

@@ -1,4 +1,4 @@
--- Names compared a chunk at a time: specs/Strays.antt's Agree. Assumes nothing.
+-- Names compared a chunk at a time: specs/NotInLabel.antt's Agree. Assumes nothing.
 use Prim.Native.Nat.{ℕ, _+_, _-_, _≤_, _<_}
 use mathlib.Core.Bool.{Bool, true, _&&_}
 use mathlib.Core.Path.{_≡_, refl, sym, ap, subst, _∙_}
@@ -11,7 +11,7 @@ use borrow.Author.Tests.{eq-eqb, eqb-true}
 use Rattle.base.proofs.Tests.{and-left, and-right, by-ltb}
 use Rattle.name.specs.Label.{lower}
 use Rattle.name.specs.Name.{canonical}
-use Rattle.name.specs.Strays.{Agree}
+use Rattle.name.specs.NotInLabel.{Agree}
 use Rattle.name.proofs.NameLaws.{length-canonical, getD-canonical}
 
 module _ (n m : List ℕ) where

@@ -18,11 +18,11 @@ use Rattle.base.proofs.Tests.{and-left, and-right}
 use Rattle.name.specs.Label.{Label, isUpper, isLower, isDigit, isLabelByte, lower}
 use Rattle.name.specs.Name.{wire, text, Spells, canonical, padded}
 use Rattle.name.specs.Promise.{Reads, ReadsNone, noName}
-use Rattle.name.specs.Strays.{isSmall, stray, strays}
+use Rattle.name.specs.NotInLabel.{isCanonicalLabelByte, notInLabel, countNotInLabel}
 use Rattle.name.specs.declared.WireName.{WireName}
 use Rattle.name.proofs.LabelLaws.{lower-length, lower-lower, lower-other, label-byte-lower, by-case}
 use Rattle.name.proofs.NameLaws.{length-text, canonical-wire, length-canonical}
-use Rattle.name.proofs.StrayLaws.{stray-small, stray-other, strays-append, small-as, by-small, by-none}
+use Rattle.name.proofs.NotInLabelLaws.{canonical-byte-none, other-byte-one, count-append, canonical-byte-as, by-canonical-byte, by-none}
 use Rattle.name.proofs.TextLaws.{lead, shifted, valid, lead-dot, lead-byte, lead-label, shifted-dot, shifted-byte, valid-dot, valid-byte, some-bytes, some-left, valid-on, text-valid, text-shifted, valid-rest}
 use Rattle.name.proofs.LeadLaws.{Parted, parted, lead-within}
 
@@ -69,10 +69,10 @@ module _ (w : List ℕ) where
 
 -- ---- one label and its dot
 
-small-of-lower : (b : ℕ) → isSmall (lower b) ≡ isLabelByte b
+canonical-byte-of-lower : (b : ℕ) → isCanonicalLabelByte (lower b) ≡ isLabelByte b
 unfolding isLabelByte
-small-of-lower b =
-    small-as (lower b) (lower-lower b)
+canonical-byte-of-lower b =
+    canonical-byte-as (lower b) (lower-lower b)
     ∙ by-case b (λ u. label-byte-lower b (upper-label u) ∙ sym (upper-label u)) (λ o. ap isLabelByte (lower-other b o))
   where
     upper-label : isUpper b ≡ true → isLabelByte b ≡ true
@@ -91,25 +91,25 @@ module _ (r : List ℕ) where
   run-byte : (b : ℕ) (l : List ℕ) → (b ≡ 46 → ⊥) → valid (b ∷ (l ++ 46 ∷ r)) ≡ (isLabelByte b && leb (lead (l ++ 46 ∷ r)) 62 && valid (l ++ 46 ∷ r))
   run-byte b l o = valid-byte b (l ++ 46 ∷ r) (some-bytes l r 46) o
 
-  run-clean : (l : List ℕ) → Every (λ b. b ≡ 46 → ⊥) l → length l ≤ 63 → strays (canonical l) ≡ 0 → valid (l ++ 46 ∷ r) ≡ valid (46 ∷ r)
-  unfolding canonical strays
+  run-clean : (l : List ℕ) → Every (λ b. b ≡ 46 → ⊥) l → length l ≤ 63 → countNotInLabel (canonical l) ≡ 0 → valid (l ++ 46 ∷ r) ≡ valid (46 ∷ r)
+  unfolding canonical countNotInLabel
   run-clean [] h short e = refl
   run-clean (b ∷ l) (Every.more o h) short e =
-      by-small (lower b)
+      by-canonical-byte (lower b)
       (λ s.
       let room : leb (lead (l ++ 46 ∷ r)) 62 ≡ true = le-leb (lead (l ++ 46 ∷ r)) 62 (omega (arith, lead-run l h)) in
-      run-byte b l o ∙ (λ i. (sym (small-of-lower b) ∙ s) i && room i && run-clean l h (omega arith) (omega arith) i))
-      (λ d. absurd (omega (arith, stray-other (lower b) d)))
+      run-byte b l o ∙ (λ i. (sym (canonical-byte-of-lower b) ∙ s) i && room i && run-clean l h (omega arith) (omega arith) i))
+      (λ d. absurd (omega (arith, other-byte-one (lower b) d)))
 
-  run-dirty : (l : List ℕ) → Every (λ b. b ≡ 46 → ⊥) l → 1 ≤ strays (canonical l) → valid (l ++ 46 ∷ r) ≡ false
-  unfolding canonical strays
+  run-dirty : (l : List ℕ) → Every (λ b. b ≡ 46 → ⊥) l → 1 ≤ countNotInLabel (canonical l) → valid (l ++ 46 ∷ r) ≡ false
+  unfolding canonical countNotInLabel
   run-dirty [] h e = absurd (omega arith)
   run-dirty (b ∷ l) (Every.more o h) e =
-      by-small (lower b)
+      by-canonical-byte (lower b)
       (λ s.
-      run-byte b l o ∙ ap (λ (t : Bool). isLabelByte b && leb (lead (l ++ 46 ∷ r)) 62 && t) (run-dirty l h (omega (arith, stray-small (lower b) s)))
+      run-byte b l o ∙ ap (λ (t : Bool). isLabelByte b && leb (lead (l ++ 46 ∷ r)) 62 && t) (run-dirty l h (omega (arith, canonical-byte-none (lower b) s)))
       ∙ and-false (isLabelByte b && leb (lead (l ++ 46 ∷ r)) 62))
-      (λ d. run-byte b l o ∙ ap (λ (t : Bool). t && leb (lead (l ++ 46 ∷ r)) 62 && valid (l ++ 46 ∷ r)) (sym (small-of-lower b) ∙ d))
+      (λ d. run-byte b l o ∙ ap (λ (t : Bool). t && leb (lead (l ++ 46 ∷ r)) 62 && valid (l ++ 46 ∷ r)) (sym (canonical-byte-of-lower b) ∙ d))
 
   run-long : (l : List ℕ) → Every (λ b. b ≡ 46 → ⊥) l → 63 < length l → valid (l ++ 46 ∷ r) ≡ false
   run-long [] h long = absurd (omega arith)
@@ -124,7 +124,7 @@ canonical-run l r = map-append lower l (46 ∷ r) ∙ ap (λ (x : ℕ). canonica
 
 -- ---- the loop
 
--- the labels before index i have their lengths before them, what stands at i is to give way to the next, and so many strays are left when the dots passed are
+-- the labels before index i have their lengths before them, what stands at i is to give way to the next, and so many bytes that no label has are left when the dots passed are
 -- taken off: those of the labels passed, and those ahead
 pub record Reading (w bytes : List ℕ) (left i : ℕ) : Type 0 where
   pub within : i ≤ length w
@@ -134,7 +134,7 @@ pub record Reading (w bytes : List ℕ) (left i : ℕ) : Type 0 where
   pub done : bytes ≡ head ++ old ∷ (canonical (drop i w) ++ replicate (254 - length w) 0)
   pub form : lead w ∷ shifted w ≡ head ++ lead (drop i w) ∷ shifted (drop i w)
   pub passed : ℕ
-  pub sum : left ≡ passed + strays (canonical (drop i w))
+  pub sum : left ≡ passed + countNotInLabel (canonical (drop i w))
   pub clean : passed ≡ 0 → valid (46 ∷ w) ≡ valid (46 ∷ drop i w)
   pub dirty : 1 ≤ passed → valid (46 ∷ w) ≡ false
 
@@ -149,7 +149,7 @@ pub word-in : (w bytes : List ℕ) (k : ℕ) → k ≡ length w → bytes ≡ 0 
 word-in w bytes k long e =
     ap (λ (l : List ℕ). take k (drop 1 l)) e ∙ take-at (canonical w) (replicate (254 - length w) 0) k (length-canonical w ∙ sym long)
 
-pub reading-none : (w bytes : List ℕ) (left : ℕ) → bytes ≡ 0 ∷ (canonical w ++ replicate (254 - length w) 0) → left ≡ strays (canonical w) → Reading w bytes left 0
+pub reading-none : (w bytes : List ℕ) (left : ℕ) → bytes ≡ 0 ∷ (canonical w ++ replicate (254 - length w) 0) → left ≡ countNotInLabel (canonical w) → Reading w bytes left 0
 reading-none w bytes left e count =
     record {
       within = omega arith;
@@ -186,9 +186,9 @@ module _ (w bytes : List ℕ) (left i : ℕ) (h : Reading w bytes left i) (withi
         ∙ ap (λ (t : Bool). leb 1 (lead (drop i w)) && t) (ap valid (p .form) ∙ run-long (p .rest) (p .label) (p .dotless) (omega (arith, p .long)))
         ∙ and-false (leb 1 (lead (drop i w))))
 
-    counts : strays (canonical (drop i w)) ≡ strays (canonical (p .label)) + (1 + strays (canonical (p .rest)))
-    unfolding strays stray isSmall isLower isDigit
-    counts = ap (λ (l : List ℕ). strays (canonical l)) (p .form) ∙ ap strays (canonical-run (p .label) (p .rest)) ∙ strays-append (canonical (p .label)) (46 ∷ canonical (p .rest))
+    counts : countNotInLabel (canonical (drop i w)) ≡ countNotInLabel (canonical (p .label)) + (1 + countNotInLabel (canonical (p .rest)))
+    unfolding countNotInLabel notInLabel isCanonicalLabelByte isLower isDigit
+    counts = ap (λ (l : List ℕ). countNotInLabel (canonical l)) (p .form) ∙ ap countNotInLabel (canonical-run (p .label) (p .rest)) ∙ count-append (canonical (p .label)) (46 ∷ canonical (p .rest))
 
     pub some-left-over : 1 ≤ left
     some-left-over = omega (arith, h .sum, counts)
@@ -222,8 +222,8 @@ module _ (w bytes : List ℕ) (left i : ℕ) (h : Reading w bytes left i) (withi
               h .form ∙ ap₂ (λ (k : ℕ) (t : List ℕ). h .head ++ k ∷ t) (sym e) (ap shifted (p .form) ∙ shifted-run r l (p .dotless))
               ∙ rest-of (lead r ∷ shifted r)
               ∙ ap (λ (t : List ℕ). front ++ lead t ∷ shifted t) (sym next);
-          passed = h .passed + strays (canonical l);
-          sum = omega (arith, h .sum, counts, ap (λ (t : List ℕ). strays (canonical t)) next);
+          passed = h .passed + countNotInLabel (canonical l);
+          sum = omega (arith, h .sum, counts, ap (λ (t : List ℕ). countNotInLabel (canonical t)) next);
           clean = λ z.
               h .clean (omega arith) ∙ after-dot
               ∙ ap₂ _&&_ (le-leb 1 (lead (drop i w)) some) (ap valid (p .form) ∙ run-clean r l (p .dotless) (omega (arith, p .long)) (omega arith))
@@ -247,11 +247,11 @@ module _ (w bytes : List ℕ) (left i : ℕ) (h : Reading w bytes left i) (all :
   none-ahead = drop-of-length-le w {i = i} all
 
   over : left ≡ h .passed
-  unfolding strays canonical
-  over = h .sum ∙ ap (λ (l : List ℕ). h .passed + strays (canonical l)) none-ahead ∙ add-zero (h .passed)
+  unfolding countNotInLabel canonical
+  over = h .sum ∙ ap (λ (l : List ℕ). h .passed + countNotInLabel (canonical l)) none-ahead ∙ add-zero (h .passed)
 
-  pub strays-over : (left ≡ 0 → ⊥) → valid (46 ∷ w) ≡ false
-  strays-over some = by-none (h .passed) (λ z. absurd (some (over ∙ z))) (h .dirty)
+  pub count-over : (left ≡ 0 → ⊥) → valid (46 ∷ w) ≡ false
+  count-over some = by-none (h .passed) (λ z. absurd (some (over ∙ z))) (h .dirty)
 
   reads-valid : left ≡ 0 → valid (46 ∷ w) ≡ true
   unfolding valid

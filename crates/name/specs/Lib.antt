@@ -1,4 +1,4 @@
 pub mod Label
 pub mod Name
 pub mod Promise
-pub mod Strays
+pub mod NotInLabel

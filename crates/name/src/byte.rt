@@ -2,7 +2,7 @@
 use base::ascii::is_in;
 ghost use mathlib.Core.Path.{_≡_};
 ghost use Rattle.name.specs.Label as spec;
-ghost use Rattle.name.specs.Strays as count;
+ghost use Rattle.name.specs.NotInLabel as count;
 
 // The bytes of labels as a set: hyphen and digits; letters and underscore.
 const LABEL_LOW: u64 = 0x3ff200000000000;
@@ -27,8 +27,8 @@ pub fn lower(b: u8) -> u8
 }
 
 // 1 for a byte that no label in canonical form has, or else 0: by comparisons, which are made of many bytes at once.
-pub(crate) fn stray(b: u8) -> u8
-    ensures { λ r. ⌜ r ≡ count.stray b ⌝ }
+pub(crate) fn not_in_label(b: u8) -> u8
+    ensures { λ r. ⌜ r ≡ count.notInLabel b ⌝ }
 {
     if ((b'a' <= b) & (b <= b'z')) | ((b'0' <= b) & (b <= b'9')) | (b == b'-') | (b == b'_') {
         0

@@ -1,14 +1,14 @@
 // Names in wire form.
 use crate::byte::is_label_byte;
 use crate::byte::lower;
-use crate::byte::stray;
+use crate::byte::not_in_label;
 ghost use mathlib.Core.Path.{_≡_};
 ghost use Prim.Native.Nat.{_+_, _≤_};
 ghost use lib.ListN.{length};
 ghost use Rattle.base.specs.Bytes.{overlay};
 ghost use Rattle.base.specs.Logic.{Decides};
 ghost use Rattle.name.specs.Name as spec;
-ghost use Rattle.name.specs.Strays as count;
+ghost use Rattle.name.specs.NotInLabel as count;
 
 // The longest name, in bytes.
 pub const LONGEST: usize = 255;
@@ -57,20 +57,20 @@ pub fn is_proper(name: &[u8]) -> bool
 }
 
 // How many bytes no label in canonical form has: with no way out before the last, so that many are taken at a turn.
-pub fn strays(name: &[u8]) -> u8
+pub fn count_not_in_label(name: &[u8]) -> u8
     requires { ⌜ length (now name) ≤ 255 ⌝ }
-    ensures { λ r. ⌜ r ≡ count.strays (now (name .entry)) ⌝ }
+    ensures { λ r. ⌜ r ≡ count.countNotInLabel (now (name .entry)) ⌝ }
 {
     let mut found: u8 = 0;
     let mut i: usize = 0;
     while i < name.len() {
-        found += stray(name[i]);
+        found += not_in_label(name[i]);
         i += 1;
     }
     found
 }
 
-// Is this a proper name in canonical form, and nothing after it? Only the lengths are walked over: the labels are right if every stray is a length.
+// Is this a proper name in canonical form, and nothing after it? Only the lengths are walked over: the labels are right if every byte that no label has is a length.
 pub fn is_canonical(name: &[u8]) -> bool
     ensures { λ r. ⌜ Decides r (spec.Proper (now (name .entry)) × (spec.canonical (now (name .entry)) ≡ now (name .entry))) ⌝ }
 {
@@ -82,8 +82,8 @@ pub fn is_canonical(name: &[u8]) -> bool
     if n < 2 {
         return false;
     }
-    // the strays, but for the lengths passed
-    let mut left = strays(name);
+    // the bytes that no label has, but for the lengths passed
+    let mut left = count_not_in_label(name);
     let mut i: usize = 0;
     while i < n {
         let b = name[i];
@@ -93,7 +93,7 @@ pub fn is_canonical(name: &[u8]) -> bool
         if LONGEST_LABEL < b {
             return false;
         }
-        left -= stray(b);
+        left -= not_in_label(b);
         i += b as usize + 1;
     }
     false

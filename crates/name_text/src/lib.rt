@@ -3,8 +3,8 @@ use base::slice::put;
 use name::WireName;
 use name::wire::CHUNK;
 use name::wire::LONGEST_LABEL;
+use name::wire::count_not_in_label;
 use name::wire::put_canonical;
-use name::wire::strays;
 ghost use mathlib.Core.Path.{_≡_};
 ghost use mathlib.Core.Logic.{_⊎_};
 ghost use Prim.Native.Nat.{_+_, _-_, _≤_, _<_};
@@ -72,7 +72,7 @@ fn next_dot(word: &[u8], at: usize) -> usize
 }
 
 // The name that a word of text is, in canonical wire form; or none, with length 0. All bytes are taken over, one further on, and each length then stands
-// where in text the dot before the label does; the bytes are right if every stray is a dot.
+// where in text the dot before the label does; the bytes are right if every one that no label has is a dot.
 pub fn from_text(word: &[u8]) -> WireName
     ensures { λ r. ⌜ spec.Reads (now (word .entry)) r ⊎ spec.ReadsNone (now (word .entry)) r ⌝ }
 {
@@ -88,8 +88,8 @@ pub fn from_text(word: &[u8]) -> WireName
     }
     let mut bytes = [0u8; 255];
     put_canonical(&mut bytes, 1, word);
-    // the strays, but for the dots passed
-    let mut left = strays(&bytes[1..n + 1]);
+    // the bytes that no label has, but for the dots passed
+    let mut left = count_not_in_label(&bytes[1..n + 1]);
     let mut i: usize = 0;
     while i < n {
         let end = next_dot(word, i);

@@ -5,9 +5,9 @@ use denote.Ref.{now}
 use native.Mathlib.Omega.{arith}
 use borrow.Author.Needs.{needs}
 use lib.ListN.{length}
-use Rattle.name.specs.Strays.{strays}
+use Rattle.name.specs.NotInLabel.{countNotInLabel}
 use Rattle.name.proofs.LeadLaws.{lead-within}
-use Rattle.name.proofs.ReadingLaws.{Reading, refused, invalid, no-bytes, too-long, no-last-dot, taken-over, word-in, reading-none, empty-label, long-label, some-left-over, reading-more, strays-over, reading-all}
+use Rattle.name.proofs.ReadingLaws.{Reading, refused, invalid, no-bytes, too-long, no-last-dot, taken-over, word-in, reading-none, empty-label, long-label, some-left-over, reading-more, count-over, reading-all}
 use Rattle.name_text.proofs.from_text.Statement.{statement}
 use Rattle.name_text.proofs.from_text.Tie as tie
 
@@ -53,26 +53,26 @@ slice-aggregate-put-canonical c = search needs
 put-canonical-requires : tie.Need-put-canonical-requires Inv-loop μ-loop
 put-canonical-requires c κs = omega arith
 
-add-strays : tie.Need-add-strays Inv-loop μ-loop
-add-strays c = omega arith
+add-count-not-in-label : tie.Need-add-count-not-in-label Inv-loop μ-loop
+add-count-not-in-label c = omega arith
 
-sub-strays : tie.Need-sub-strays Inv-loop μ-loop
-sub-strays c = omega arith
+sub-count-not-in-label : tie.Need-sub-count-not-in-label Inv-loop μ-loop
+sub-count-not-in-label c = omega arith
 
-part-strays-start : tie.Need-part-strays-start Inv-loop μ-loop
-part-strays-start c = omega arith
+part-count-not-in-label-start : tie.Need-part-count-not-in-label-start Inv-loop μ-loop
+part-count-not-in-label-start c = omega arith
 
-part-strays-end : tie.Need-part-strays-end Inv-loop μ-loop
-part-strays-end c = omega arith
+part-count-not-in-label-end : tie.Need-part-count-not-in-label-end Inv-loop μ-loop
+part-count-not-in-label-end c = omega arith
 
-strays-requires : tie.Need-strays-requires Inv-loop μ-loop
-strays-requires c κs = omega arith
+count-not-in-label-requires : tie.Need-count-not-in-label-requires Inv-loop μ-loop
+count-not-in-label-requires c κs = omega arith
 
 loop-holds : tie.Need-loop-holds Inv-loop μ-loop
 loop-holds c =
     let w = now (c .before .before .before .before .before .before .before .before .before .before .before .args .word) in
     let over = taken-over w _ 255 refl (c .before .before .before .before .put-canonical .ensures) in
-    reading-none w _ _ over (c .strays .ensures ∙ ap strays (word-in w _ (length w + 1 - 1) (omega arith) over))
+    reading-none w _ _ over (c .count-not-in-label .ensures ∙ ap countNotInLabel (word-in w _ (length w + 1 - 1) (omega arith) over))
 
 next-dot-requires : tie.Need-next-dot-requires Inv-loop μ-loop
 next-dot-requires c κs = (c .loop-test .taken, c .before .before .before .before .before .before .before .before .if3 .left)
@@ -131,7 +131,7 @@ returns-6 : tie.Need-returns-6 Inv-loop μ-loop
 returns-6 c =
     let w = now (c .before .before .before .before .before .before .before .before .before .before .before .before .before .before .before .args .word) in
     let l = c .before .before .before .loop in
-    refused w _ (c .no-name6 .ensures) (λ n s. invalid w n s (strays-over w _ _ (l .i) (l .inv) (c .before .before .loop-test .left) (c .before .if6 .taken)))
+    refused w _ (c .no-name6 .ensures) (λ n s. invalid w n s (count-over w _ _ (l .i) (l .inv) (c .before .before .loop-test .left) (c .before .if6 .taken)))
 
 array-write-bytes-2 : tie.Need-array-write-bytes-2 Inv-loop μ-loop
 array-write-bytes-2 c = omega arith
@@ -164,11 +164,11 @@ from-text-spec =
     returns-3
     slice-aggregate-put-canonical
     put-canonical-requires
-    add-strays
-    sub-strays
-    part-strays-start
-    part-strays-end
-    strays-requires
+    add-count-not-in-label
+    sub-count-not-in-label
+    part-count-not-in-label-start
+    part-count-not-in-label-end
+    count-not-in-label-requires
     loop-holds
     next-dot-requires
     sub-size

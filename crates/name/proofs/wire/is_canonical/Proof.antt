@@ -4,7 +4,7 @@ use native.Mathlib.Omega.{arith}
 use borrow.Author.Needs.{needs}
 use Rattle.base.proofs.Tests.{no-by}
 use Rattle.name.proofs.WireLaws.{proper-short}
-use Rattle.name.proofs.StrayLaws.{Hopped, proper-two, held-decides, hopped-none, hopped-stray, hopped-last, hopped-long, hopped-more, hopped-end}
+use Rattle.name.proofs.NotInLabelLaws.{Hopped, proper-two, held-decides, hopped-none, hopped-not-in-label, hopped-last, hopped-long, hopped-more, hopped-end}
 use Rattle.name.proofs.wire.is_canonical.Statement.{statement}
 use Rattle.name.proofs.wire.is_canonical.Tie as tie
 
@@ -20,13 +20,13 @@ returns c = no-by (λ h. omega (arith, proper-short _ (h .0)))
 returns-2 : tie.Need-returns-2 Inv-loop μ-loop
 returns-2 c = no-by (λ h. omega (arith, proper-two _ (h .0)))
 
-strays-requires : tie.Need-strays-requires Inv-loop μ-loop
-strays-requires c κs = omega arith
+count-not-in-label-requires : tie.Need-count-not-in-label-requires Inv-loop μ-loop
+count-not-in-label-requires c κs = omega arith
 
 loop-holds : tie.Need-loop-holds Inv-loop μ-loop
 loop-holds c =
     let n = now (c .before .before .before .before .args .name) in
-    rw (c .strays .ensures) (hopped-none n)
+    rw (c .count-not-in-label .ensures) (hopped-none n)
 
 shared-slice-read-b : tie.Need-shared-slice-read-b Inv-loop μ-loop
 shared-slice-read-b c = omega arith
@@ -44,13 +44,13 @@ returns-4 c =
     let l = c .before .before .before .before in
     held-decides _ _ (hopped-long _ _ (l .loop .i) (l .loop .inv) (c .before .before .before .loop-test .taken) (c .if4 .taken)) (omega arith) (omega arith)
 
-stray-requires : tie.Need-stray-requires Inv-loop μ-loop
-stray-requires c κs = search needs
+not-in-label-requires : tie.Need-not-in-label-requires Inv-loop μ-loop
+not-in-label-requires c κs = search needs
 
 sub-left : tie.Need-sub-left Inv-loop μ-loop
 sub-left c =
     let l = c .before .before .before .before .before in
-    omega (arith, c .stray .ensures, hopped-stray _ _ (l .loop .i) (l .loop .inv) (c .before .before .before .before .loop-test .taken))
+    omega (arith, c .not-in-label .ensures, hopped-not-in-label _ _ (l .loop .i) (l .loop .inv) (c .before .before .before .before .loop-test .taken))
 
 cast-i : tie.Need-cast-i Inv-loop μ-loop
 cast-i c = omega arith
@@ -67,7 +67,7 @@ loop-less c = omega arith
 loop-again : tie.Need-loop-again Inv-loop μ-loop
 loop-again c =
     let l = c .before .before .before .before .before in
-    hopped-more _ _ (l .loop .i) (l .loop .inv) (c .before .before .before .before .loop-test .taken) _ (c .stray .ensures) (c .before .before .if3 .left) (omega arith)
+    hopped-more _ _ (l .loop .i) (l .loop .inv) (c .before .before .before .before .loop-test .taken) _ (c .not-in-label .ensures) (c .before .before .if3 .left) (omega arith)
 
 returns-5 : tie.Need-returns-5 Inv-loop μ-loop
 returns-5 c =
@@ -82,13 +82,13 @@ is-canonical-spec =
     μ-loop
     returns
     returns-2
-    strays-requires
+    count-not-in-label-requires
     loop-holds
     shared-slice-read-b
     add-result
     returns-3
     returns-4
-    stray-requires
+    not-in-label-requires
     sub-left
     cast-i
     add-i

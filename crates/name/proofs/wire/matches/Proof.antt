@@ -6,7 +6,7 @@ use borrow.Author.Needs.{needs}
 use borrow.Author.Tests.{not-true, not-false}
 use lib.ListN.{length}
 use Rattle.base.proofs.Tests.{yes-by, no-by}
-use Rattle.name.specs.Strays.{Agree}
+use Rattle.name.specs.NotInLabel.{Agree}
 use Rattle.name.proofs.NameLaws.{length-canonical}
 use Rattle.name.proofs.MatchLaws.{agree-none, agree-on, agree-byte, agree-same, agree-all}
 use Rattle.name.proofs.wire.matches.Statement.{statement}

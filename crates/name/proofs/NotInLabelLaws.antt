@@ -1,4 +1,4 @@
--- The test of a name in canonical form, which counts strays: specs/Strays.antt. Assumes nothing.
+-- The test of a name in canonical form, which counts the bytes that no label has: specs/NotInLabel.antt. Assumes nothing.
 use Prim.Native.Nat.{ℕ, zero, suc, _+_, _-_, _≤_, _<_}
 use mathlib.Core.Bool.{Bool, true, false, cond, _&&_, _||_, and-false, true≢false, false≢true}
 use mathlib.Core.Path.{_≡_, refl, sym, ap, ap₂, _∙_}
@@ -13,76 +13,76 @@ use Rattle.base.specs.Logic.{Decides}
 use Rattle.base.proofs.Tests.{and-left, and-right, under, over}
 use Rattle.name.specs.Label.{isUpper, isLower, isDigit, isLabelByte, lower}
 use Rattle.name.specs.Name.{Proper, canonical}
-use Rattle.name.specs.Strays.{isSmall, stray, strays}
+use Rattle.name.specs.NotInLabel.{isCanonicalLabelByte, notInLabel, countNotInLabel}
 use Rattle.name.proofs.LabelLaws.{lower-length, lower-upper, lower-other, upper-range, by-case}
 use Rattle.name.proofs.WireLaws.{isNil, accepts, proper-first, accepts-proper, decided, at-last}
 
 -- ---- counting
 
-pub stray-small : (b : ℕ) → isSmall b ≡ true → stray b ≡ 0
-unfolding stray
-stray-small b e = ap (λ (t : Bool). cond t 0 1) e
+pub canonical-byte-none : (b : ℕ) → isCanonicalLabelByte b ≡ true → notInLabel b ≡ 0
+unfolding notInLabel
+canonical-byte-none b e = ap (λ (t : Bool). cond t 0 1) e
 
-pub stray-other : (b : ℕ) → isSmall b ≡ false → stray b ≡ 1
-unfolding stray
-stray-other b e = ap (λ (t : Bool). cond t 0 1) e
+pub other-byte-one : (b : ℕ) → isCanonicalLabelByte b ≡ false → notInLabel b ≡ 1
+unfolding notInLabel
+other-byte-one b e = ap (λ (t : Bool). cond t 0 1) e
 
 -- by which of the two a byte is
-pub by-small : {P : Type 0} (b : ℕ) → (isSmall b ≡ true → P) → (isSmall b ≡ false → P) → P
-by-small {P} b f g = go (isSmall b) refl
+pub by-canonical-byte : {P : Type 0} (b : ℕ) → (isCanonicalLabelByte b ≡ true → P) → (isCanonicalLabelByte b ≡ false → P) → P
+by-canonical-byte {P} b f g = go (isCanonicalLabelByte b) refl
   where
-    go : (t : Bool) → isSmall b ≡ t → P
+    go : (t : Bool) → isCanonicalLabelByte b ≡ t → P
     go true e = f e
     go false e = g e
 
-pub stray-one : (b : ℕ) → stray b ≤ 1
-stray-one b = by-small b (λ e. omega (arith, stray-small b e)) (λ e. omega (arith, stray-other b e))
+pub not-in-label-one : (b : ℕ) → notInLabel b ≤ 1
+not-in-label-one b = by-canonical-byte b (λ e. omega (arith, canonical-byte-none b e)) (λ e. omega (arith, other-byte-one b e))
 
-pub strays-append : (l m : List ℕ) → strays (l ++ m) ≡ strays l + strays m
-unfolding strays
-strays-append [] m = omega arith
-strays-append (b ∷ l) m = omega (arith, strays-append l m)
+pub count-append : (l m : List ℕ) → countNotInLabel (l ++ m) ≡ countNotInLabel l + countNotInLabel m
+unfolding countNotInLabel
+count-append [] m = omega arith
+count-append (b ∷ l) m = omega (arith, count-append l m)
 
-pub strays-length : (l : List ℕ) → strays l ≤ length l
-unfolding strays
-strays-length [] = omega arith
-strays-length (b ∷ l) = omega (arith, strays-length l, stray-one b)
+pub count-length : (l : List ℕ) → countNotInLabel l ≤ length l
+unfolding countNotInLabel
+count-length [] = omega arith
+count-length (b ∷ l) = omega (arith, count-length l, not-in-label-one b)
 
 -- the first i bytes are counted
 pub record Counted (n : List ℕ) (found i : ℕ) : Type 0 where
   pub low : i ≤ length n
-  pub all : found ≡ strays (take i n)
+  pub all : found ≡ countNotInLabel (take i n)
   pub few : found ≤ i
 
 pub counted-none : (n : List ℕ) → Counted n 0 0
-unfolding strays
+unfolding countNotInLabel
 counted-none n = record { low = omega arith; all = refl; few = omega arith }
 
-pub counted-more : (n : List ℕ) (found i x : ℕ) → Counted n found i → i < length n → x ≡ stray (getD n i 0) → Counted n (found + x) (i + 1)
-unfolding strays
+pub counted-more : (n : List ℕ) (found i x : ℕ) → Counted n found i → i < length n → x ≡ notInLabel (getD n i 0) → Counted n (found + x) (i + 1)
+unfolding countNotInLabel
 counted-more n found i x h within e =
     let cut : take (i + 1) n ≡ take i n ++ (getD n i 0 ∷ []) = rw (add-one, take-suc n i 0) in
-    let sum : strays (take (i + 1) n) ≡ strays (take i n) + (stray (getD n i 0) + 0) = ap strays cut ∙ strays-append (take i n) (getD n i 0 ∷ []) in
-    record { low = omega arith; all = omega (arith, h .all); few = omega (arith, h .few, stray-one (getD n i 0)) }
+    let sum : countNotInLabel (take (i + 1) n) ≡ countNotInLabel (take i n) + (notInLabel (getD n i 0) + 0) = ap countNotInLabel cut ∙ count-append (take i n) (getD n i 0 ∷ []) in
+    record { low = omega arith; all = omega (arith, h .all); few = omega (arith, h .few, not-in-label-one (getD n i 0)) }
 
-pub counted-all : (n : List ℕ) (found i : ℕ) → Counted n found i → length n ≤ i → found ≡ strays n
-counted-all n found i h all = h .all ∙ ap strays (take-all i n all)
+pub counted-all : (n : List ℕ) (found i : ℕ) → Counted n found i → length n ≤ i → found ≡ countNotInLabel n
+counted-all n found i h all = h .all ∙ ap countNotInLabel (take-all i n all)
 
 -- ---- a byte of a label that is canonical
 
-pub small-as : (b : ℕ) → lower b ≡ b → isSmall b ≡ isLabelByte b
-unfolding isLabelByte isSmall
-small-as b e =
+pub canonical-byte-as : (b : ℕ) → lower b ≡ b → isCanonicalLabelByte b ≡ isLabelByte b
+unfolding isLabelByte isCanonicalLabelByte
+canonical-byte-as b e =
     by-case b (λ u. absurd (omega (arith, e, lower-upper b u))) (λ o. sym (ap (λ (t : Bool). t || isLower b || isDigit b || eqb b 45 || eqb b 95) o))
 
-upper-other : (b : ℕ) → isUpper b ≡ true → isSmall b ≡ false
-unfolding isSmall isLower isDigit
+upper-other : (b : ℕ) → isUpper b ≡ true → isCanonicalLabelByte b ≡ false
+unfolding isCanonicalLabelByte isLower isDigit
 upper-other b u =
     let r = upper-range b u in
     λ i. under 97 b 122 (omega arith) i || over 48 b 57 (omega arith) i || ne-eqb b 45 (λ e. omega arith) i || ne-eqb b 95 (λ e. omega arith) i
 
-small-lower : (b : ℕ) → isSmall b ≡ true → lower b ≡ b
-small-lower b e = by-case b (λ u. absurd (true≢false (sym e ∙ upper-other b u))) (lower-other b)
+canonical-byte-lower : (b : ℕ) → isCanonicalLabelByte b ≡ true → lower b ≡ b
+canonical-byte-lower b e = by-case b (λ u. absurd (true≢false (sym e ∙ upper-other b u))) (lower-other b)
 
 -- ---- the test
 
@@ -90,13 +90,13 @@ small-lower b e = by-case b (λ u. absurd (true≢false (sym e ∙ upper-other b
 unfoldable pub held : ℕ → List ℕ → Bool
 held k [] = false
 held zero (b ∷ n) = cond (eqb b 0) (isNil n) (leb b 63 && held b n)
-held (suc k) (b ∷ n) = isSmall b && held k n
+held (suc k) (b ∷ n) = isCanonicalLabelByte b && held k n
 
 held-as : (n : List ℕ) (k : ℕ) → canonical n ≡ n → held k n ≡ accepts k n
 unfolding held accepts canonical
 held-as [] k c = refl
 held-as (b ∷ n) zero c = ap (λ (t : Bool). cond (eqb b 0) (isNil n) (leb b 63 && t)) (held-as n b (tail-eq-of-cons-eq c))
-held-as (b ∷ n) (suc k) c = ap₂ _&&_ (small-as b (head-eq-of-cons-eq c)) (held-as n k (tail-eq-of-cons-eq c))
+held-as (b ∷ n) (suc k) c = ap₂ _&&_ (canonical-byte-as b (head-eq-of-cons-eq c)) (held-as n k (tail-eq-of-cons-eq c))
 
 held-last : (b : ℕ) (n : List ℕ) → b ≡ 0 → isNil n ≡ true → canonical (b ∷ n) ≡ b ∷ n
 unfolding canonical
@@ -111,7 +111,7 @@ held-length b n ih false z e = ap₂ _∷_ (lower-length b (leb-true b 63 (and-l
 held-byte : (k b : ℕ) (n : List ℕ) → ((j : ℕ) → held j n ≡ true → canonical n ≡ n) → held k (b ∷ n) ≡ true → canonical (b ∷ n) ≡ b ∷ n
 unfolding held canonical
 held-byte zero b n ih e = held-length b n (ih b) (eqb b 0) refl e
-held-byte (suc k) b n ih e = ap₂ _∷_ (small-lower b (and-left (isSmall b) (held k n) e)) (ih k (and-right (isSmall b) (held k n) e))
+held-byte (suc k) b n ih e = ap₂ _∷_ (canonical-byte-lower b (and-left (isCanonicalLabelByte b) (held k n) e)) (ih k (and-right (isCanonicalLabelByte b) (held k n) e))
 
 held-canonical : (n : List ℕ) (k : ℕ) → held k n ≡ true → canonical n ≡ n
 held-canonical [] k e = absurd (false≢true (unfold held in e))
@@ -143,34 +143,34 @@ held-decides n b e some short =
       if-false = λ f h. true≢false (sym (accepts-proper n (h .0)) ∙ sym (held-as n 0 (h .1)) ∙ sym e ∙ f);
     }
 
--- ---- a label passed at once, by its strays
+-- ---- a label passed at once, by how many of its bytes no label has
 
-label-clean : (r : List ℕ) (k : ℕ) → strays (take k r) ≡ 0 → held k r ≡ held 0 (drop k r)
-unfolding held strays
+label-clean : (r : List ℕ) (k : ℕ) → countNotInLabel (take k r) ≡ 0 → held k r ≡ held 0 (drop k r)
+unfolding held countNotInLabel
 label-clean [] zero e = refl
 label-clean [] (suc k) e = refl
 label-clean (b ∷ r) zero e = refl
 label-clean (b ∷ r) (suc k) e =
-    by-small b (λ s. ap (λ (t : Bool). t && held k r) s ∙ label-clean r k (omega arith)) (λ o. absurd (omega (arith, stray-other b o)))
+    by-canonical-byte b (λ s. ap (λ (t : Bool). t && held k r) s ∙ label-clean r k (omega arith)) (λ o. absurd (omega (arith, other-byte-one b o)))
 
-label-dirty : (r : List ℕ) (k : ℕ) → 1 ≤ strays (take k r) → held k r ≡ false
-unfolding held strays
+label-dirty : (r : List ℕ) (k : ℕ) → 1 ≤ countNotInLabel (take k r) → held k r ≡ false
+unfolding held countNotInLabel
 label-dirty [] zero e = absurd (omega arith)
 label-dirty [] (suc k) e = refl
 label-dirty (b ∷ r) zero e = absurd (omega arith)
 label-dirty (b ∷ r) (suc k) e =
-    by-small b (λ s. ap (λ (t : Bool). t && held k r) s ∙ label-dirty r k (omega (arith, stray-small b s))) (λ o. ap (λ (t : Bool). t && held k r) o)
+    by-canonical-byte b (λ s. ap (λ (t : Bool). t && held k r) s ∙ label-dirty r k (omega (arith, canonical-byte-none b s))) (λ o. ap (λ (t : Bool). t && held k r) o)
 
 -- ---- the walk over the lengths
 
--- at i stands a length; so many strays are left when the lengths before it are taken off: those of the labels passed, and those ahead
+-- at i stands a length; so many bytes that no label has are left when the lengths before it are taken off: those of the labels passed, and those ahead
 pub record Hopped (n : List ℕ) (left i : ℕ) : Type 0 where
   pub passed : ℕ
-  pub sum : left ≡ passed + strays (drop i n)
+  pub sum : left ≡ passed + countNotInLabel (drop i n)
   pub clean : passed ≡ 0 → held 0 n ≡ held 0 (drop i n)
   pub dirty : 1 ≤ passed → held 0 n ≡ false
 
-pub hopped-none : (n : List ℕ) → Hopped n (strays n) 0
+pub hopped-none : (n : List ℕ) → Hopped n (countNotInLabel n) 0
 hopped-none n = record { passed = 0; sum = omega arith; clean = λ z. refl; dirty = λ o. absurd (omega arith) }
 
 pub by-none : {P : Type 0} (k : ℕ) → (k ≡ 0 → P) → (1 ≤ k → P) → P
@@ -188,12 +188,12 @@ module _ (n : List ℕ) (left i : ℕ) (h : Hopped n left i) (within : i < lengt
   ahead : drop i n ≡ getD n i 0 ∷ drop (i + 1) n
   ahead = rw (add-one, drop-cons n i 0)
 
-  counts : strays (drop i n) ≡ stray (getD n i 0) + strays (drop (i + 1) n)
-  unfolding strays
-  counts = ap strays ahead
+  counts : countNotInLabel (drop i n) ≡ notInLabel (getD n i 0) + countNotInLabel (drop (i + 1) n)
+  unfolding countNotInLabel
+  counts = ap countNotInLabel ahead
 
-  pub hopped-stray : stray (getD n i 0) ≤ left
-  hopped-stray = omega (arith, h .sum, counts)
+  pub hopped-not-in-label : notInLabel (getD n i 0) ≤ left
+  hopped-not-in-label = omega (arith, h .sum, counts)
 
   at-length : held 0 (drop i n) ≡ cond (eqb (getD n i 0) 0) (isNil (drop (i + 1) n)) (leb (getD n i 0) 63 && held (getD n i 0) (drop (i + 1) n))
   unfolding held
@@ -204,24 +204,24 @@ module _ (n : List ℕ) (left i : ℕ) (h : Hopped n left i) (within : i < lengt
       refuse n left i h
       (at-length ∙ (λ j. cond (ne-eqb (getD n i 0) 0 (λ z. omega arith) j) (isNil (drop (i + 1) n)) (lt-leb (getD n i 0) 63 long j && held (getD n i 0) (drop (i + 1) n))))
 
-  pub hopped-more : (x : ℕ) → x ≡ stray (getD n i 0) → (getD n i 0 ≡ 0 → ⊥) → getD n i 0 ≤ 63 → Hopped n (left - x) (i + (getD n i 0 + 1))
+  pub hopped-more : (x : ℕ) → x ≡ notInLabel (getD n i 0) → (getD n i 0 ≡ 0 → ⊥) → getD n i 0 ≤ 63 → Hopped n (left - x) (i + (getD n i 0 + 1))
   hopped-more x e some short =
       let k = getD n i 0 in
       let r = drop (i + 1) n in
       let next : i + 1 + k ≡ i + (k + 1) = omega arith in
       let rest : drop k r ≡ drop (i + (k + 1)) n = drop-drop k (i + 1) n ∙ ap (λ (j : ℕ). drop j n) next in
-      let parts : strays r ≡ strays (take k r) + strays (drop (i + (k + 1)) n) =
-      ap strays (sym (take-append-drop k r)) ∙ strays-append (take k r) (drop k r) ∙ ap (λ (l : List ℕ). strays (take k r) + strays l) rest in
+      let parts : countNotInLabel r ≡ countNotInLabel (take k r) + countNotInLabel (drop (i + (k + 1)) n) =
+      ap countNotInLabel (sym (take-append-drop k r)) ∙ count-append (take k r) (drop k r) ∙ ap (λ (l : List ℕ). countNotInLabel (take k r) + countNotInLabel l) rest in
       let here : held 0 (drop i n) ≡ held k r =
       at-length ∙ (λ j. cond (ne-eqb k 0 some j) (isNil r) (le-leb k 63 short j && held k r)) in
       record {
-        passed = h .passed + strays (take k r);
+        passed = h .passed + countNotInLabel (take k r);
         sum = omega (arith, h .sum, counts, parts, e);
         clean = λ z. h .clean (omega arith) ∙ here ∙ label-clean r k (omega arith) ∙ ap (held 0) rest;
         dirty = λ o. by-none (h .passed) (λ z. h .clean z ∙ here ∙ label-dirty r k (omega arith)) (h .dirty);
       }
 
-  -- the zero byte: the last, and the one stray that is left
+  -- the zero byte: the last, and the one left that no label has
   module _ (z : getD n i 0 ≡ 0) where
     at-zero : held 0 (drop i n) ≡ eqb (i + 1) (length n)
     at-zero =
@@ -230,10 +230,10 @@ module _ (n : List ℕ) (left i : ℕ) (h : Hopped n left i) (within : i < lengt
         ∙ sym (at-last (drop (i + 1) n) (i + 1) (length n) rest)
 
     one-left : i + 1 ≡ length n → left ≡ h .passed + 1
-    unfolding strays stray isSmall isLower isDigit
+    unfolding countNotInLabel notInLabel isCanonicalLabelByte isLower isDigit
     one-left last =
-        let none-ahead : strays (drop (i + 1) n) ≡ 0 = ap strays (drop-of-length-le n {i = i + 1} (omega arith)) in
-        let one : stray (getD n i 0) ≡ 1 = ap stray z in
+        let none-ahead : countNotInLabel (drop (i + 1) n) ≡ 0 = ap countNotInLabel (drop-of-length-le n {i = i + 1} (omega arith)) in
+        let one : notInLabel (getD n i 0) ≡ 1 = ap notInLabel z in
         omega (arith, h .sum, counts, none-ahead, one)
 
     by-last : (t : Bool) → eqb (i + 1) (length n) ≡ t → (t && eqb left 1) ≡ held 0 n

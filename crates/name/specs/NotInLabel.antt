@@ -7,18 +7,18 @@ use lib.Dec.{eqb}
 use lib.ListN.{getD}
 use Rattle.name.specs.Label.{isLower, isDigit, lower}
 
--- a byte of a label in canonical form: a small letter, a digit, a hyphen (45) or an underscore (95)
-unfoldable pub isSmall : ℕ → Bool
-isSmall b = isLower b || isDigit b || eqb b 45 || eqb b 95
+-- a byte of a label in canonical form: a lower-case letter, a digit, a hyphen (45) or an underscore (95)
+unfoldable pub isCanonicalLabelByte : ℕ → Bool
+isCanonicalLabelByte b = isLower b || isDigit b || eqb b 45 || eqb b 95
 
 -- 1 for any other byte
-unfoldable pub stray : ℕ → ℕ
-stray b = cond (isSmall b) 0 1
+unfoldable pub notInLabel : ℕ → ℕ
+notInLabel b = cond (isCanonicalLabelByte b) 0 1
 
 -- how many others there are
-unfoldable pub strays : List ℕ → ℕ
-strays [] = 0
-strays (b ∷ n) = stray b + strays n
+unfoldable pub countNotInLabel : List ℕ → ℕ
+countNotInLabel [] = 0
+countNotInLabel (b ∷ n) = notInLabel b + countNotInLabel n
 
 -- from index `from` on, and before index `to`, the bytes of m are those of n in lower case
 abbrev pub Agree : List ℕ → List ℕ → ℕ → ℕ → Type 0
