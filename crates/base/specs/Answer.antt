@@ -20,6 +20,10 @@ abbrev pub offset : Answer → ℕ
 offset (Accepted v) = 0
 offset (Refused n o) = o
 
+-- document 01: accepted means that the call gives no refusal
+unfoldable pub IsAccepted : Answer → Type 0
+IsAccepted a = (count : ℕ) × (a ≡ Accepted count)
+
 -- the one number that C gets: the refusal's number above 32 bits, and in them its offset; or 0 and the value
 abbrev pub forC : Answer → ℕ
 forC (Accepted v) = v

@@ -4,13 +4,12 @@ use mathlib.Core.Path.{_≡_, sym, ap, subst, _∙_}
 use mathlib.Core.List.{List}
 use native.Mathlib.Omega.{arith}
 use lib.ListN.{length, take}
-use Rattle.base.specs.Answer.{value, forC, Tells}
+use Rattle.base.specs.Answer.{value, forC, Tells, IsAccepted}
 use Rattle.base.specs.Bytes.{overlay}
 use Rattle.base.specs.Logic.{Every}
 use Rattle.base.specs.declared.Answer.{Answer}
 use Rattle.base.specs.declared.Answer.the-variants.{Accepted}
 use Rattle.base.proofs.Bytes.{length-overlay}
-use Rattle.row.specs.Demand3.{IsAccepted}
 use Rattle.slots.specs.Form.{Sound}
 use Rattle.table.specs.Calls.{Adds, Removes, Clears}
 use Rattle.table.proofs.Theorems.{sound-add, others-add, order-add, installs, installs-so, sound-remove, removes-that, removes-if, sound-clear, clears-that, clears-if}

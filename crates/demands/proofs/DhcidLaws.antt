@@ -2,13 +2,13 @@
 use Prim.Native.Nat.{ℕ}
 use mathlib.Core.Path.{refl, sym}
 use mathlib.Core.List.{List}
+use Rattle.base.specs.Answer.{IsAccepted}
 use Rattle.base.specs.declared.Answer.{Answer}
 use Rattle.base.proofs.AnswerLaws.{accepted≢refused}
 use Rattle.message.specs.Request.{identifierBytes}
 use Rattle.dhcid.specs.Chosen.{nameBytes}
 use Rattle.dhcid.specs.Dhcid.{dhcidOf, Writes}
 use Rattle.dhcid.proofs.Theorems.{first-bytes, rest-unchanged}
-use Rattle.row.specs.Demand3.{IsAccepted}
 use Rattle.demands.specs.Demand2.{IsRfc4701}
 
 pub dhcid-is : (family setting : ℕ) (m site out : List ℕ) (a : Answer) (left : List ℕ) → Writes family setting m site out a left → IsAccepted a

@@ -8,6 +8,7 @@ use mathlib.Core.Option.{Option, none, some, Option·some-injective, Option·non
 use native.Mathlib.Omega.{arith}
 use lib.ListN.{length}
 use Rattle.base.specs.Bytes.{eqBytes}
+use Rattle.base.specs.Family.{KnownFamily}
 use Rattle.base.specs.Order.{Test}
 use Rattle.base.specs.declared.Answer.{Answer}
 use Rattle.base.proofs.OrderLaws.{fault-before}
@@ -18,7 +19,7 @@ use Rattle.slots.specs.Form.{TableEntry, Sound}
 use Rattle.slots.specs.Promise.{isAddress}
 use Rattle.slots.proofs.Theorems.{one-sound-table}
 use Rattle.table.specs.Steps.{Outcome, find}
-use Rattle.table.specs.Calls.{KnownFamily, KnownPolicy, nameTests, argumentTests, Adds, Removes, Clears}
+use Rattle.table.specs.Calls.{KnownPolicy, nameTests, argumentTests, Adds, Removes, Clears}
 use Rattle.table.proofs.CaseLaws.{Adding, add-case, Removing, remove-case, Clearing, clear-case}
 use Rattle.records.specs.Written.{listingOf}
 use Rattle.records.specs.Calls.{Writes}

@@ -5,8 +5,9 @@ use mathlib.Core.Logic.{_↔_}
 use mathlib.Core.List.{List}
 use mathlib.Core.Option.{some}
 use lib.ListN.{length, take, drop}
-use Rattle.base.specs.Answer.{value}
+use Rattle.base.specs.Answer.{value, IsAccepted}
 use Rattle.base.specs.Logic.{Every}
+use Rattle.base.specs.Family.{KnownFamily}
 use Rattle.base.specs.Order.{AllHold}
 use Rattle.base.specs.declared.Answer.{Answer}
 use Rattle.base.specs.declared.Answer.the-variants.{Accepted}
@@ -15,11 +16,10 @@ use Rattle.message.specs.declared.Request.{Request}
 use Rattle.dhcid.specs.Chosen.{Says, Chooses}
 use Rattle.dhcid.specs.Dhcid as request
 use Rattle.dhcid.specs.declared.Chosen.{Chosen}
-use Rattle.row.specs.Demand3.{IsAccepted}
 use Rattle.slots.specs.Entry.{familyOf, names, addressOf}
 use Rattle.slots.specs.Form.{TableEntry, Sound}
 use Rattle.table.specs.Steps.{find}
-use Rattle.table.specs.Calls.{KnownFamily, KnownPolicy, nameTests, argumentTests, Adds, Removes, Clears}
+use Rattle.table.specs.Calls.{KnownPolicy, nameTests, argumentTests, Adds, Removes, Clears}
 use Rattle.table.specs.Demand2.{others, Ordered, MayInstall, Installs, Installed, Deleted, Cleared}
 use Rattle.records.specs.Calls.{Writes, Loads}
 use Rattle.demands.specs.Faults.{Stands}

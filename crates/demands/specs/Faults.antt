@@ -6,6 +6,7 @@ use mathlib.Core.Logic.{_⊎_}
 use mathlib.Core.List.{List, [], _∷_, _++_}
 use mathlib.Core.Option.{none, some}
 use lib.ListN.{length}
+use Rattle.base.specs.Family.{KnownFamily}
 use Rattle.base.specs.Order.{Test, FirstFault}
 use Rattle.base.specs.Refusal.{outputShort, hashInputLong, heldByAnother, keptByHand, tableFull, nameNotHeld, addressDiffers, tableNotSound}
 use Rattle.name.specs.Name.{canonical}
@@ -19,7 +20,7 @@ use Rattle.listing.specs.Giving.{Gives, refusal}
 use Rattle.slots.specs.Entry.{familyOf, addressOf}
 use Rattle.slots.specs.Form.{TableEntry, Sound}
 use Rattle.table.specs.Steps.{find}
-use Rattle.table.specs.Calls.{KnownFamily, KnownPolicy, nameTests, argumentTests}
+use Rattle.table.specs.Calls.{KnownPolicy, nameTests, argumentTests}
 use Rattle.records.specs.Written.{listingOf}
 use Rattle.records.specs.Calls.{loadTests}
 

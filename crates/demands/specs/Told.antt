@@ -3,13 +3,12 @@ use Prim.Native.Nat.{ℕ, _≤_, _<_}
 use mathlib.Core.Path.{_≡_}
 use mathlib.Core.List.{List}
 use lib.ListN.{length, take}
-use Rattle.base.specs.Answer.{forC, Tells, TakenApart}
+use Rattle.base.specs.Answer.{forC, Tells, TakenApart, IsAccepted}
 use Rattle.base.specs.declared.Answer.{Answer}
 use Rattle.base.specs.declared.Answer.the-variants.{Refused}
 use Rattle.dhcid.specs.Chosen.{Names}
 use Rattle.dhcid.specs.Dhcid as request
 use Rattle.listing.specs.Reading.{Checks}
-use Rattle.row.specs.Demand3.{IsAccepted}
 use Rattle.slots.specs.Form.{Sound}
 use Rattle.table.specs.Calls.{Adds, Removes, Clears}
 use Rattle.records.specs.Calls.{Writes, Loads}

@@ -9,6 +9,7 @@ use lib.Dec.{leb, eqb}
 use lib.ListN.{length, getD}
 use lib.Seq.{take-length}
 use borrow.Author.Tests.{eqb-true, eqb-false, eq-eqb, ne-eqb, le-leb, leb-true, not-true}
+use Rattle.base.specs.Family.{KnownFamily}
 use Rattle.base.specs.Logic.{Decides}
 use Rattle.base.specs.Refusal.{noProperName, unknownSetting}
 use Rattle.base.proofs.Tests.{and-left, and-right}
@@ -17,7 +18,7 @@ use Rattle.name.proofs.WireLaws.{accepts, accepts-proper, proper-first, proper-
 use Rattle.message.specs.Request.{bytesOf, Inside, refusedWith}
 use Rattle.message.specs.declared.Request.{Request}
 use Rattle.message.proofs.PartLaws.{part-length}
-use Rattle.dhcid.specs.Chosen.{KnownSetting, KnownFamily, Says, noChoice, fromMessage, fromSite, UsesClients, Chooses, among, nameBytes}
+use Rattle.dhcid.specs.Chosen.{KnownSetting, Says, noChoice, fromMessage, fromSite, UsesClients, Chooses, among, nameBytes}
 use Rattle.dhcid.specs.Choosing.{isKnown, said, isProper, usesClients, bySite, chosenFor, choose}
 use Rattle.dhcid.specs.declared.Chosen.{Chosen}
 use Rattle.dhcid.proofs.SaysLaws.{known, is-known, says-said, said-says, said-unknown, placed}

@@ -9,9 +9,10 @@ use native.Mathlib.Omega.{arith}
 use lib.Dec.{leb, eqb}
 use lib.ListN.{length}
 use borrow.Author.Tests.{eqb-true, eq-eqb, ne-eqb}
+use Rattle.base.specs.Family.{KnownFamily}
 use Rattle.base.specs.Logic.{Every}
-use Rattle.base.proofs.Tests.{and-left, and-right}
 use Rattle.base.specs.Refusal.{unknownSetting}
+use Rattle.base.proofs.Tests.{and-left, and-right}
 use Rattle.message.specs.Options.{Located, isRepeated, having, optionOf}
 use Rattle.message.specs.Request.{Inside, refusedWith, identifierBytes, identified, accepted}
 use Rattle.message.specs.declared.Part.{Part}
@@ -23,13 +24,12 @@ use Rattle.message4.proofs.Theorems.{answer4, only-answer4, id-head-inside4, id
 use Rattle.message6.specs.Message6.{Reads6}
 use Rattle.message6.specs.Reading6.{request6}
 use Rattle.message6.proofs.Theorems.{answer6, only-answer6, identifier-type6, no-head6, id-inside6, name-inside6, identifier-length6}
-use Rattle.dhcid.specs.Chosen.{KnownSetting, KnownFamily, Says}
+use Rattle.dhcid.specs.Chosen.{KnownSetting, Says}
 use Rattle.dhcid.specs.Choosing.{isKnown, said}
 
 -- ---- families and settings
 
 known-family : (family : ℕ) → KnownFamily family → (eqb family 4 || eqb family 6) ≡ true
-unfolding KnownFamily
 known-family family (inl e) = ap (λ (n : ℕ). eqb n 4 || eqb n 6) e
 known-family family (inr e) = ap (λ (n : ℕ). eqb n 4 || eqb n 6) e
 
@@ -56,7 +56,7 @@ pub record Known (family setting : ℕ) : Type 0 where
   pub in-setting : KnownSetting setting
 
 pub is-known : (family setting : ℕ) → isKnown family setting ≡ true → Known family setting
-unfolding isKnown KnownFamily KnownSetting
+unfolding isKnown KnownSetting
 is-known family setting e =
     record {
       in-family = either family 4 6 (and-left (eqb family 4 || eqb family 6) (eqb setting 0 || eqb setting 1) e);
@@ -69,7 +69,6 @@ abbrev read : ℕ → List ℕ → Request
 read family m = cond (eqb family 4) (request4 m) (request6 m)
 
 reads-said : (family : ℕ) (m : List ℕ) → KnownFamily family → Says family m (read family m)
-unfolding KnownFamily
 reads-said family m (inl e) = subst (λ (n : ℕ). Says n m (read n m)) (sym e) (Says.v4 (answer4 m))
 reads-said family m (inr e) = subst (λ (n : ℕ). Says n m (read n m)) (sym e) (Says.v6 (answer6 m))
 
@@ -78,7 +77,6 @@ said-read {m = m} {r = r} (Says.v4 h) = only-answer4 m r h
 said-read {m = m} {r = r} (Says.v6 h) = only-answer6 m r h
 
 says-known : {family : ℕ} {m : List ℕ} {r : Request} → Says family m r → KnownFamily family
-unfolding KnownFamily
 says-known (Says.v4 h) = inl refl
 says-known (Says.v6 h) = inr refl
 

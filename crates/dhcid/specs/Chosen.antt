@@ -6,6 +6,7 @@ use mathlib.Core.Logic.{_⊎_}
 use mathlib.Core.List.{List}
 use lib.Dec.{eqb}
 use lib.ListN.{length}
+use Rattle.base.specs.Family.{KnownFamily}
 use Rattle.base.specs.Refusal.{noProperName, unknownSetting}
 use Rattle.base.specs.declared.Answer.{Answer}
 use Rattle.base.specs.declared.Answer.the-variants.{Accepted, Refused}
@@ -27,9 +28,6 @@ KnownSetting setting = (setting ≡ 0) ⊎ (setting ≡ 1)
 pub data Says : ℕ → List ℕ → Request → Type 0 where
   v4 : {m : List ℕ} {r : Request} → Reads4 m r → Says 4 m r
   v6 : {m : List ℕ} {r : Request} → Reads6 m r → Says 6 m r
-
-unfoldable pub KnownFamily : ℕ → Type 0
-KnownFamily family = (family ≡ 4) ⊎ (family ≡ 6)
 
 -- ---- the choice
 

@@ -4,7 +4,7 @@ use mathlib.Core.Path.{_≡_, refl, sym, ap, subst, _∙_}
 use mathlib.Core.List.{List, map}
 use lib.ListN.{length, take, drop, length-map}
 use lib.Seq.{take-append-seam, drop-append-seam}
-use Rattle.base.specs.Answer.{value}
+use Rattle.base.specs.Answer.{value, IsAccepted}
 use Rattle.base.specs.declared.Answer.{Answer}
 use Rattle.base.specs.declared.Answer.the-variants.{Refused}
 use Rattle.base.proofs.AnswerLaws.{accepted≢refused}
@@ -16,7 +16,7 @@ use Rattle.grammar.proofs.Theorems.{one-answer}
 use Rattle.entry.specs.EntryIs.{held}
 use Rattle.entry.specs.declared.Record.{Record}
 use Rattle.listing.specs.Reading.{limit, counted}
-use Rattle.row.specs.Demand3.{IsAccepted, Demand3}
+use Rattle.row.specs.Demand3.{Demand3}
 use Rattle.row.specs.Row.{placed, RowRead}
 
 -- an accepted answer is grammar's list, with room for it

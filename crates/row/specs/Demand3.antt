@@ -1,20 +1,15 @@
 -- Demand 3 of the customer, of the call that reads a whole listing into a lent row. It cites what a listing spells (grammar, specs/Listing.antt, written down
--- without a reader), which bytes a record has in a row (entry, `held`), and the row before and after the call; nothing else.
+-- without a reader), which bytes a record has in a row (entry, `held`), what an answer says (base, specs/Answer.antt), and the row before and after the call; nothing else.
 use Prim.Native.Nat.{ℕ, _≤_}
 use mathlib.Core.Path.{_≡_}
 use mathlib.Core.Logic.{_↔_}
 use mathlib.Core.List.{List, map}
 use lib.ListN.{length, take}
-use Rattle.base.specs.Answer.{value}
+use Rattle.base.specs.Answer.{value, IsAccepted}
 use Rattle.base.specs.declared.Answer.{Answer}
-use Rattle.base.specs.declared.Answer.the-variants.{Accepted}
 use Rattle.grammar.specs.Listing.{ResourceRecord, Spells}
 use Rattle.entry.specs.EntryIs.{held}
 use Rattle.entry.specs.declared.Record.{Record}
-
--- document 01: accepted means that the call gives no refusal
-unfoldable pub IsAccepted : Answer → Type 0
-IsAccepted a = (count : ℕ) × (a ≡ Accepted count)
 
 -- the listing t was read into a row that held the places lent and now holds the places handed; a was answered
 pub record Demand3 (t : List ℕ) (lent handed : List Record) (a : Answer) : Type 0 where

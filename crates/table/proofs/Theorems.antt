@@ -5,6 +5,7 @@ use mathlib.Core.Logic.{_↔_, inl, inr}
 use mathlib.Core.List.{List}
 use mathlib.Core.Option.{some}
 use Rattle.base.specs.Bytes.{eqBytes}
+use Rattle.base.specs.Family.{KnownFamily}
 use Rattle.base.specs.Order.{AllHold}
 use Rattle.base.specs.declared.Answer.{Answer}
 use Rattle.base.specs.declared.Answer.the-variants.{Accepted, Refused}
@@ -13,8 +14,8 @@ use Rattle.name.proofs.Theorems.{canonical-form}
 use Rattle.slots.specs.Entry.{familyOf, addressOf, names}
 use Rattle.slots.specs.Form.{TableEntry, tableBytes, Sound}
 use Rattle.slots.proofs.Theorems.{one-sound-table}
-use Rattle.table.specs.Steps.{find, add, remove, clear}
-use Rattle.table.specs.Calls.{KnownFamily, KnownPolicy, nameTests, argumentTests, Adds, Removes, Clears}
+use Rattle.table.specs.Steps.{find}
+use Rattle.table.specs.Calls.{KnownPolicy, nameTests, argumentTests, Adds, Removes, Clears}
 use Rattle.table.specs.Demand2.{others, Ordered, MayInstall, Installs, Installed, Deleted, Cleared}
 use Rattle.table.proofs.CaseLaws.{add-case, remove-case, clear-case}
 use Rattle.table.proofs.DemandLaws.{

@@ -8,6 +8,7 @@ use mathlib.Core.List.{List, [], _∷_, _++_}
 use lib.ListN.{length}
 use Rattle.base.specs.Bytes.{eqBytes}
 use Rattle.base.specs.Dhcid.{wellFormed}
+use Rattle.base.specs.Family.{KnownFamily}
 use Rattle.base.specs.Order.{Test, AllHold, FirstFault}
 use Rattle.base.specs.Refusal.{noProperName, unknownSetting, notADhcid, addressLength, tableNotSound}
 use Rattle.base.specs.declared.Answer.{Answer}
@@ -18,9 +19,6 @@ use Rattle.slots.specs.Form.{TableEntry, tableBytes, Sound}
 use Rattle.table.specs.Steps.{Outcome, add, remove, clear}
 
 -- ---- what is tested
-
-abbrev pub KnownFamily : ℕ → Type 0
-KnownFamily family = (family ≡ 4) ⊎ (family ≡ 6)
 
 -- first wins, or latest wins
 abbrev pub KnownPolicy : ℕ → Type 0

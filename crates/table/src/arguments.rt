@@ -11,6 +11,7 @@ use slot_row::is_sound;
 use slots::Family;
 ghost use mathlib.Core.Bool.{true};
 ghost use mathlib.Core.Path.{_≡_};
+ghost use Rattle.base.specs.Family.{KnownFamily};
 ghost use Rattle.base.specs.Logic.{Decides};
 ghost use Rattle.slots.specs.Entry.{familyOf};
 ghost use Rattle.table.specs.Calls as calls;
@@ -26,7 +27,7 @@ pub(crate) const FIRST_WINS: u32 = 0;
 const LATEST_WINS: u32 = 1;
 
 pub(crate) fn is_family(family: u32) -> bool
-    ensures { λ r. ⌜ Decides r (calls.KnownFamily family) ⌝ }
+    ensures { λ r. ⌜ Decides r (KnownFamily family) ⌝ }
 {
     if family == V4 {
         return true;
