@@ -20,6 +20,10 @@ module _ {A : Type 0} where
     sym (drop-at a c (length a) refl) ∙ ap (drop (length a)) e ∙ drop-at b d (length a) (sym long),
   )
 
+  pub no-elements : (l : List A) → length l ≡ 0 → l ≡ []
+  no-elements [] e = refl
+  no-elements (a ∷ l) e = absurd (omega arith)
+
   pub nil≢append : (l : List A) (x : A) (r : List A) → [] ≡ l ++ x ∷ r → ⊥
   nil≢append [] x r e = nil≢cons e
   nil≢append (a ∷ l) x r e = nil≢cons e

@@ -1,6 +1,6 @@
 -- Demand 1, of the calls on the table. Assumes nothing.
 use Prim.Native.Nat.{ℕ, _^_, _≤_, _<_}
-use mathlib.Core.Bool.{true, false, true≢false, false≢true}
+use mathlib.Core.Bool.{true, false, true≢false}
 use mathlib.Core.Path.{_≡_, refl, sym, ap, subst, _∙_}
 use mathlib.Core.Logic.{inl, inr}
 use mathlib.Core.List.{List, [], _∷_}
@@ -21,6 +21,7 @@ use Rattle.slots.proofs.Theorems.{one-sound-table}
 use Rattle.table.specs.Steps.{Outcome, find}
 use Rattle.table.specs.Calls.{KnownPolicy, nameTests, argumentTests, Adds, Removes, Clears}
 use Rattle.table.proofs.CaseLaws.{Adding, add-case, Removing, remove-case, Clearing, clear-case}
+use Rattle.table.proofs.DemandLaws.{is-address}
 use Rattle.records.specs.Written.{listingOf}
 use Rattle.records.specs.Calls.{Writes}
 use Rattle.records.proofs.Theorems.{written-short}
@@ -51,11 +52,7 @@ differs {k} {d} other e = true≢false (sym (eq-eqBytes k d e) ∙ other)
 answered : {a : Answer} {o p : Outcome (List ℕ)} → a ≡ o .answer → o ≡ p → a ≡ p .answer
 answered e q = e ∙ ap (λ (r : Outcome (List ℕ)). r .answer) q
 
--- is it that address?
-the-address : (o : Option (List ℕ)) (x : List ℕ) → isAddress o x ≡ true → o ≡ some x
-the-address none x e = absurd (false≢true e)
-the-address (some y) x e = ap some (eqBytes-true y x e)
-
+-- it is not that address
 no-address : (o : Option (List ℕ)) (x : List ℕ) → isAddress o x ≡ false → o ≡ some x → ⊥
 no-address none x e q = Option·none-ne-some x q
 no-address (some y) x e q = differs e (Option·some-injective y x q)
@@ -162,7 +159,7 @@ module _ (b name dhcid : List ℕ) (family : ℕ) (address : List ℕ) where
             holds b s Hand (λ h. not-by-hand n (s .table) found holder h),
             (
               holds b s (HeldBy dhcid n) (c, found, holder ∙ ap some (eqBytes-true k dhcid same)),
-              (holds b s Same (λ d also. ap (addressOf (familyOf family)) (one-entry n (s .table) also found) ∙ the-address (addressOf (familyOf family) c) address there), tt),
+              (holds b s Same (λ d also. ap (addressOf (familyOf family)) (one-entry n (s .table) also found) ∙ is-address (addressOf (familyOf family) c) address there), tt),
             ),
           ),
         )

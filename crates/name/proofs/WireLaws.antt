@@ -10,6 +10,7 @@ use lib.ListN.{length, getD, drop, length-drop, drop-of-length-le}
 use lib.Seq.{drop-cons}
 use borrow.Author.Tests.{eq-eqb, ne-eqb, le-leb, lt-leb, eqb-true, eqb-false, leb-true}
 use Rattle.base.specs.Logic.{Every, Decides}
+use Rattle.base.proofs.Lists.{no-elements}
 use Rattle.base.proofs.Tests.{and-left, and-right}
 use Rattle.name.specs.Label.{Label, isLabelByte}
 use Rattle.name.specs.Name.{wire, Proper}
@@ -93,10 +94,6 @@ accepted (b ∷ n) k e = accepted-byte k b n (λ j. accepted n j) e
 
 -- ---- so the test decides, of at most 255 bytes that do not begin with the zero byte
 
-no-bytes : (l : List ℕ) → length l ≡ 0 → l ≡ []
-no-bytes [] e = refl
-no-bytes (b ∷ l) e = absurd (omega arith)
-
 some-labels : (ls : List (List ℕ)) (n : List ℕ) → n ≡ wire ls → (getD n 0 0 ≡ 0 → ⊥) → 1 ≤ length ls
 unfolding wire
 some-labels [] n e first = absurd (first (ap (λ (t : List ℕ). getD t 0 0) e))
@@ -126,7 +123,7 @@ decided n b e first short =
       if-true =
           λ t.
           let r = accepted n 0 (sym e ∙ t) in
-          let form : n ≡ wire (r .labels) = r .form ∙ ap (λ (l : List ℕ). l ++ wire (r .labels)) (no-bytes (r .label) (r .long)) in
+          let form : n ≡ wire (r .labels) = r .form ∙ ap (λ (l : List ℕ). l ++ wire (r .labels)) (no-elements (r .label) (r .long)) in
           record {
             labels = r .labels;
             name = record { some = some-labels (r .labels) n form first; labels = r .are; short = omega (arith, ap length form) };

@@ -1,6 +1,6 @@
 -- Demand 2, from the calls' promises. Assumes nothing.
 use Prim.Native.Nat.{ℕ, _≤_}
-use mathlib.Core.Bool.{true, false, true≢false, false≢true}
+use mathlib.Core.Bool.{true, true≢false, false≢true}
 use mathlib.Core.Path.{_≡_, refl, sym, ap, subst, _∙_}
 use mathlib.Core.Logic.{inl, inr, ⊎-elim}
 use mathlib.Core.List.{List, [], _∷_, _++_}
@@ -13,6 +13,7 @@ use Rattle.base.specs.Dhcid.{wellFormed}
 use Rattle.base.specs.Order.{Test, AllHold}
 use Rattle.base.specs.declared.Answer.{Answer}
 use Rattle.base.specs.declared.Answer.the-variants.{Accepted, Refused}
+use Rattle.base.proofs.AnswerLaws.{accepted≢refused}
 use Rattle.base.proofs.Lists.{map-append}
 use Rattle.base.proofs.Tests.{eqBytes-true, eq-eqBytes, ne-eqBytes}
 use Rattle.base.proofs.Theorems.{one-fault, no-fault}
@@ -82,15 +83,12 @@ entered-name : (n d : List ℕ) (f : Family) (x : List ℕ) → entered n d f x 
 entered-name n d V4 x = refl
 entered-name n d V6 x = refl
 
-is-address : (o : Option (List ℕ)) (x : List ℕ) → isAddress o x ≡ true → o ≡ some x
+pub is-address : (o : Option (List ℕ)) (x : List ℕ) → isAddress o x ≡ true → o ≡ some x
 is-address none x e = absurd (false≢true e)
 is-address (some y) x e = ap some (eqBytes-true y x e)
 
 accepted-value : (v w : ℕ) → Accepted v ≡ Accepted w → v ≡ w
 accepted-value v w e = cc
-
-refused-not : (n v : ℕ) → Refused n 0 ≡ Accepted v → ⊥
-refused-not n v e = let z : _≡_ {A = ℕ} 0 1 = cc in omega arith
 
 -- what a step on sound entries leaves: sound again, and every other entry as it was
 pub record Left (limit : ℕ) (n : List ℕ) (t : List TableEntry) (o : Outcome (List ℕ)) : Type 0 where
@@ -213,10 +211,10 @@ module _ (limit : ℕ) (b : List ℕ) (s : Sound limit b) (n : List ℕ) where
 
     pub may-install : (o : Outcome (List ℕ)) → Adding eqBytes (s .table) n d f x limit policy o → KnownPolicy policy → (v : ℕ) → o .answer ≡ Accepted v → MayInstall limit (s .table) n d policy
     may-install o (Adding.put-last found room e) known v a = MayInstall.unused found room
-    may-install o (Adding.full found room e) known v a = absurd (refused-not 32 v (sym (ap (λ (y : Outcome (List ℕ)). y .answer) e) ∙ a))
-    may-install o (Adding.by-hand c found holder e) known v a = absurd (refused-not 31 v (sym (ap (λ (y : Outcome (List ℕ)). y .answer) e) ∙ a))
+    may-install o (Adding.full found room e) known v a = absurd (accepted≢refused (sym a ∙ ap (λ (y : Outcome (List ℕ)). y .answer) e))
+    may-install o (Adding.by-hand c found holder e) known v a = absurd (accepted≢refused (sym a ∙ ap (λ (y : Outcome (List ℕ)). y .answer) e))
     may-install o (Adding.same-client c k found holder same e) known v a = MayInstall.same c found (holder ∙ same-holder k d same)
-    may-install o (Adding.first-wins c k found holder differs p e) known v a = absurd (refused-not 30 v (sym (ap (λ (y : Outcome (List ℕ)). y .answer) e) ∙ a))
+    may-install o (Adding.first-wins c k found holder differs p e) known v a = absurd (accepted≢refused (sym a ∙ ap (λ (y : Outcome (List ℕ)). y .answer) e))
     may-install o (Adding.latest-wins c k found holder differs p e) known v a =
         MayInstall.latest c k found holder (λ same. true≢false (sym (eq-eqBytes k d same) ∙ differs)) (⊎-elim (λ z. absurd (p z)) (λ one. one) known)
 
@@ -256,10 +254,10 @@ module _ (limit : ℕ) (b : List ℕ) (s : Sound limit b) (n : List ℕ) where
     remove-leaves = by-removing (remove eqBytes (s .table) n d f x) (remove-case eqBytes (s .table) n d f x)
 
     by-deleting : (o : Outcome (List ℕ)) → Removing eqBytes (s .table) n d f x o → (v : ℕ) → o .answer ≡ Accepted v → (v ≡ 0) × Deleted (s .table) (o .table) n d f x
-    by-deleting o (Removing.not-held found e) v a = absurd (refused-not 33 v (sym (ap (λ (y : Outcome (List ℕ)). y .answer) e) ∙ a))
-    by-deleting o (Removing.by-hand c found holder e) v a = absurd (refused-not 31 v (sym (ap (λ (y : Outcome (List ℕ)). y .answer) e) ∙ a))
-    by-deleting o (Removing.another c k found holder differs e) v a = absurd (refused-not 30 v (sym (ap (λ (y : Outcome (List ℕ)). y .answer) e) ∙ a))
-    by-deleting o (Removing.differs c k found holder same b′ e) v a = absurd (refused-not 34 v (sym (ap (λ (y : Outcome (List ℕ)). y .answer) e) ∙ a))
+    by-deleting o (Removing.not-held found e) v a = absurd (accepted≢refused (sym a ∙ ap (λ (y : Outcome (List ℕ)). y .answer) e))
+    by-deleting o (Removing.by-hand c found holder e) v a = absurd (accepted≢refused (sym a ∙ ap (λ (y : Outcome (List ℕ)). y .answer) e))
+    by-deleting o (Removing.another c k found holder differs e) v a = absurd (accepted≢refused (sym a ∙ ap (λ (y : Outcome (List ℕ)). y .answer) e))
+    by-deleting o (Removing.differs c k found holder same b′ e) v a = absurd (accepted≢refused (sym a ∙ ap (λ (y : Outcome (List ℕ)). y .answer) e))
     by-deleting o (Removing.removed c k found holder same b′ e) v a =
         let table : o .table ≡ changed n (deleted f) (s .table) = ap (λ (y : Outcome (List ℕ)). y .table) e in (
           accepted-value v 0 (sym a ∙ ap (λ (y : Outcome (List ℕ)). y .answer) e),
@@ -290,7 +288,7 @@ module _ (limit : ℕ) (b : List ℕ) (s : Sound limit b) (n : List ℕ) where
   clear-leaves = by-clearing (clear (s .table) n) (clear-case (s .table) n)
 
   by-taking : (o : Outcome (List ℕ)) → Clearing (s .table) n o → (v : ℕ) → o .answer ≡ Accepted v → (v ≡ 0) × Cleared (s .table) (o .table) n
-  by-taking o (Clearing.not-held found e) v a = absurd (refused-not 33 v (sym (ap (λ (y : Outcome (List ℕ)). y .answer) e) ∙ a))
+  by-taking o (Clearing.not-held found e) v a = absurd (accepted≢refused (sym a ∙ ap (λ (y : Outcome (List ℕ)). y .answer) e))
   by-taking o (Clearing.cleared c found e) v a =
       let table : o .table ≡ without n (s .table) = ap (λ (y : Outcome (List ℕ)). y .table) e in (
         accepted-value v 0 (sym a ∙ ap (λ (y : Outcome (List ℕ)). y .answer) e),
@@ -303,28 +301,25 @@ module _ (limit : ℕ) (b : List ℕ) (s : Sound limit b) (n : List ℕ) where
 
 -- ---- refusals change nothing, and acceptance is determined
 
-accepted-not : (v m k : ℕ) → Accepted v ≡ Refused m k → ⊥
-accepted-not v m k e = let z : _≡_ {A = ℕ} 0 1 = cc in omega arith
-
 module _ (t : List TableEntry) (n d : List ℕ) (f : Family) (x : List ℕ) (m at : ℕ) where
   pub add-refused : (limit policy : ℕ) (o : Outcome (List ℕ)) → Adding eqBytes t n d f x limit policy o → o .answer ≡ Refused m at → o .table ≡ t
-  add-refused limit policy o (Adding.put-last found room e) a = absurd (accepted-not 0 m at (sym (ap (λ (y : Outcome (List ℕ)). y .answer) e) ∙ a))
+  add-refused limit policy o (Adding.put-last found room e) a = absurd (accepted≢refused (sym (ap (λ (y : Outcome (List ℕ)). y .answer) e) ∙ a))
   add-refused limit policy o (Adding.full found room e) a = ap (λ (y : Outcome (List ℕ)). y .table) e
   add-refused limit policy o (Adding.by-hand c found holder e) a = ap (λ (y : Outcome (List ℕ)). y .table) e
-  add-refused limit policy o (Adding.same-client c k found holder same e) a = absurd (accepted-not 1 m at (sym (ap (λ (y : Outcome (List ℕ)). y .answer) e) ∙ a))
+  add-refused limit policy o (Adding.same-client c k found holder same e) a = absurd (accepted≢refused (sym (ap (λ (y : Outcome (List ℕ)). y .answer) e) ∙ a))
   add-refused limit policy o (Adding.first-wins c k found holder differs p e) a = ap (λ (y : Outcome (List ℕ)). y .table) e
-  add-refused limit policy o (Adding.latest-wins c k found holder differs p e) a = absurd (accepted-not 2 m at (sym (ap (λ (y : Outcome (List ℕ)). y .answer) e) ∙ a))
+  add-refused limit policy o (Adding.latest-wins c k found holder differs p e) a = absurd (accepted≢refused (sym (ap (λ (y : Outcome (List ℕ)). y .answer) e) ∙ a))
 
   pub remove-refused : (o : Outcome (List ℕ)) → Removing eqBytes t n d f x o → o .answer ≡ Refused m at → o .table ≡ t
   remove-refused o (Removing.not-held found e) a = ap (λ (y : Outcome (List ℕ)). y .table) e
   remove-refused o (Removing.by-hand c found holder e) a = ap (λ (y : Outcome (List ℕ)). y .table) e
   remove-refused o (Removing.another c k found holder differs e) a = ap (λ (y : Outcome (List ℕ)). y .table) e
   remove-refused o (Removing.differs c k found holder same b′ e) a = ap (λ (y : Outcome (List ℕ)). y .table) e
-  remove-refused o (Removing.removed c k found holder same b′ e) a = absurd (accepted-not 0 m at (sym (ap (λ (y : Outcome (List ℕ)). y .answer) e) ∙ a))
+  remove-refused o (Removing.removed c k found holder same b′ e) a = absurd (accepted≢refused (sym (ap (λ (y : Outcome (List ℕ)). y .answer) e) ∙ a))
 
 pub clear-refused : (t : List TableEntry) (n : List ℕ) (m at : ℕ) (o : Outcome (List ℕ)) → Clearing t n o → o .answer ≡ Refused m at → o .table ≡ t
 clear-refused t n m at o (Clearing.not-held found e) a = ap (λ (y : Outcome (List ℕ)). y .table) e
-clear-refused t n m at o (Clearing.cleared c found e) a = absurd (accepted-not 0 m at (sym (ap (λ (y : Outcome (List ℕ)). y .answer) e) ∙ a))
+clear-refused t n m at o (Clearing.cleared c found e) a = absurd (accepted≢refused (sym (ap (λ (y : Outcome (List ℕ)). y .answer) e) ∙ a))
 
 -- what stands under the name, with that client and that address, is removed
 has-address : (o : Option (List ℕ)) (x : List ℕ) → o ≡ some x → isAddress o x ≡ true

@@ -1,5 +1,5 @@
 -- A word and the text of a name, compared label by label. Assumes nothing.
-use Prim.Native.Nat.{ℕ, zero, suc, _+_, _-_, _≤_, _<_}
+use Prim.Native.Nat.{ℕ, zero, suc, _+_, _≤_, _<_}
 use mathlib.Core.Bool.{Bool, true, false}
 use mathlib.Core.Path.{_≡_, refl, sym, ap, ap₂, subst₂, _∙_}
 use mathlib.Core.List.{List, [], _∷_, head-eq-of-cons-eq, tail-eq-of-cons-eq}
@@ -9,6 +9,7 @@ use lib.ListN.{length, take, drop, getD, length-drop}
 use lib.Seq.{drop-drop, getD-drop, take-all}
 use borrow.Author.Tests.{leb-true}
 use Rattle.base.specs.Logic.{Decides}
+use Rattle.base.proofs.Lists.{no-elements}
 use Rattle.base.proofs.Tests.{and-left, decides-as}
 use Rattle.name.specs.Label.{isUpper, lower}
 use Rattle.name.specs.Name.{canonical}
@@ -30,10 +31,6 @@ unfolding canonical
 drop-canonical zero w = refl
 drop-canonical (suc k) [] = refl
 drop-canonical (suc k) (b ∷ w) = drop-canonical k w
-
-no-bytes : (l : List ℕ) → length l ≡ 0 → l ≡ []
-no-bytes [] e = refl
-no-bytes (b ∷ l) e = absurd (omega arith)
 
 -- a dot is no letter
 upper-high : (b : ℕ) → isUpper b ≡ true → b + 32 ≡ 46 → ⊥
@@ -114,7 +111,7 @@ module _ (w n : List ℕ) (long : length w + 1 ≡ length n) where
     pub same-all : length w ≤ at → canonical w ≡ textOf n
     same-all done =
         let none = no-dot (getD n at 0) (drop (at + 1) n) (omega (arith, length-drop (at + 1) n)) in
-        s .back (no-bytes (canonical (drop at w)) (omega (arith, length-canonical (drop at w), length-drop at w)) ∙ sym (no-bytes (drop (at + 1) n) (omega (arith, length-drop (at + 1) n))) ∙ sym none)
+        s .back (no-elements (canonical (drop at w)) (omega (arith, length-canonical (drop at w), length-drop at w)) ∙ sym (no-elements (drop (at + 1) n) (omega (arith, length-drop (at + 1) n))) ∙ sym none)
 
     module _ (k : ℕ) (size : k ≡ getD n at 0) (within : at + k < length w) where
       inside : k < length (canonical (drop at w))

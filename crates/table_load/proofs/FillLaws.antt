@@ -9,7 +9,7 @@ use lib.ListN.{length, getD, length-append}
 use lib.Seq.{append-snoc}
 use borrow.Author.Tests.{lt-ltb, le-ltb}
 use Rattle.base.specs.Logic.{Every}
-use Rattle.base.proofs.Lists.{every-middle, every-left}
+use Rattle.base.proofs.Lists.{no-elements, every-middle, every-left}
 use Rattle.base.proofs.Tests.{by-ltb}
 use Rattle.grammar.specs.Listing.{ResourceRecord}
 use Rattle.entry.specs.EntryIs.{EntryIs}
@@ -46,10 +46,6 @@ isEnd (refusal n p) = false
 
 -- ---- records before and ahead
 
-no-bytes : (l : List (List ℕ)) → length l ≡ 0 → l ≡ []
-no-bytes [] e = refl
-no-bytes (x ∷ l) e = absurd (omega arith)
-
 module _ (seen : List ResourceRecord) (r : ResourceRecord) (rest : List ResourceRecord) where
   -- a name has no record before of the type of one ahead
   none-yet : Single (seen ++ r ∷ rest) → dataOf (r .owner) (r .rtype) seen ≡ []
@@ -57,7 +53,7 @@ module _ (seen : List ResourceRecord) (r : ResourceRecord) (rest : List Resource
   none-yet single =
       let n = r .owner in
       let k = r .rtype in
-      no-bytes (dataOf n k seen)
+      no-elements (dataOf n k seen)
       (omega (arith, single n k, length-data-append n k seen (r ∷ rest), ap length (data-same n k r rest (of-is n k r refl refl))))
 
 module _ (t ps : List ℕ) (p : Progress) (b : List ℕ) (f : Filled t ps p b) where
