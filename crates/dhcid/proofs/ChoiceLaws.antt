@@ -1,45 +1,30 @@
 -- The choice of a name: the functions of specs/Choosing.antt against what specs/Chosen.antt says. Assumes nothing.
 use Prim.Native.Nat.{ℕ, _≤_}
-use mathlib.Core.Bool.{Bool, true, false, _&&_, not, true≢false}
+use mathlib.Core.Bool.{Bool, true, false, _&&_, true≢false}
 use mathlib.Core.Path.{_≡_, refl, sym, ap, subst, _∙_}
 use mathlib.Core.Logic.{inr}
 use mathlib.Core.List.{List}
 use native.Mathlib.Omega.{arith}
-use lib.Dec.{leb, eqb}
-use lib.ListN.{length, getD}
+use lib.Dec.{eqb}
+use lib.ListN.{length}
 use lib.Seq.{take-length}
-use borrow.Author.Tests.{eqb-true, eqb-false, eq-eqb, ne-eqb, le-leb, leb-true, not-true}
+use borrow.Author.Tests.{eqb-true, eqb-false, eq-eqb, ne-eqb}
 use Rattle.base.specs.Family.{KnownFamily}
 use Rattle.base.specs.Logic.{Decides}
 use Rattle.base.specs.Refusal.{noProperName, unknownSetting}
 use Rattle.base.proofs.Tests.{and-left, and-right}
 use Rattle.name.specs.Name.{Proper}
-use Rattle.name.proofs.WireLaws.{accepts, accepts-proper, proper-first, proper-short, decided}
+use Rattle.name.specs.ProperTest.{isProper}
+use Rattle.name.proofs.WireLaws.{proper-short, proper-passes, passes-proper, fails-proper}
 use Rattle.message.specs.Request.{bytesOf, Inside, refusedWith}
 use Rattle.message.specs.declared.Request.{Request}
 use Rattle.message.proofs.PartLaws.{part-length}
 use Rattle.dhcid.specs.Chosen.{KnownSetting, Says, noChoice, fromMessage, fromSite, UsesClients, Chooses, among, nameBytes}
-use Rattle.dhcid.specs.Choosing.{isKnown, said, isProper, usesClients, bySite, chosenFor, choose}
+use Rattle.dhcid.specs.Choosing.{isKnown, said, usesClients, bySite, chosenFor, choose}
 use Rattle.dhcid.specs.declared.Chosen.{Chosen}
 use Rattle.dhcid.proofs.SaysLaws.{known, is-known, says-said, said-says, said-unknown, placed}
 
 -- ---- the test of a proper name
-
-pub proper-passes : (n : List ℕ) → Proper n → isProper n ≡ true
-unfolding isProper
-proper-passes n p =
-    λ i. not (ne-eqb (getD n 0 0) 0 (proper-first n p) i) && le-leb (length n) 255 (proper-short n p) i && accepts-proper n p i
-
-pub passes-proper : (n : List ℕ) → isProper n ≡ true → Proper n
-unfolding isProper
-passes-proper n e =
-    let front = and-left (not (eqb (getD n 0 0) 0) && leb (length n) 255) (accepts 0 n) e in
-    let first = not-true (eqb (getD n 0 0) 0) (and-left (not (eqb (getD n 0 0) 0)) (leb (length n) 255) front) in
-    let short = leb-true (length n) 255 (and-right (not (eqb (getD n 0 0) 0)) (leb (length n) 255) front) in
-    decided n true (sym (and-right (not (eqb (getD n 0 0) 0) && leb (length n) 255) (accepts 0 n) e)) (eqb-false (getD n 0 0) 0 first) short .if-true refl
-
-pub fails-proper : (n : List ℕ) → isProper n ≡ false → Proper n → ⊥
-fails-proper n e p = true≢false (sym (proper-passes n p) ∙ e)
 
 -- what decides "proper" is this test
 pub same-test : (n : List ℕ) (b : Bool) → Decides b (Proper n) → b ≡ isProper n

@@ -1,15 +1,15 @@
 -- The choice of a name and the writing of a DHCID, found by functions, for the promises of `choose` and `put_dhcid`. What they are is defined in Chosen.antt and
 -- Dhcid.antt, which cite none of these: proofs/Theorems.antt proves that these find just that, and that every request is answered with something.
 use Prim.Native.Nat.{ℕ, _+_, _≤_}
-use mathlib.Core.Bool.{Bool, cond, _&&_, _||_, not}
+use mathlib.Core.Bool.{Bool, cond, _&&_, _||_}
 use mathlib.Core.Path.{_≡_}
 use mathlib.Core.List.{List}
-use lib.Dec.{eqb, leb, ltb}
-use lib.ListN.{length, getD}
+use lib.Dec.{eqb, ltb}
+use lib.ListN.{length}
 use Rattle.base.specs.Bytes.{overlay}
 use Rattle.base.specs.Refusal.{noProperName, unknownSetting, outputShort, hashInputLong}
 use Rattle.base.specs.declared.Answer.{Answer}
-use Rattle.name.proofs.WireLaws.{accepts}
+use Rattle.name.specs.ProperTest.{isProper}
 use Rattle.message.specs.Request.{bytesOf, Inside, refusedWith, identifierBytes}
 use Rattle.message.specs.declared.Request.{Request}
 use Rattle.message4.specs.Reading4.{request4}
@@ -28,10 +28,6 @@ unfoldable pub said : ℕ → ℕ → List ℕ → Request
 said family setting m = cond (isKnown family setting) (cond (eqb family 4) (request4 m) (request6 m)) (refusedWith unknownSetting)
 
 -- ---- the choice
-
--- the test of a proper name: it does not begin with its zero byte, has at most 255 bytes, and these are labels and a zero byte
-unfoldable pub isProper : List ℕ → Bool
-isProper n = not (eqb (getD n 0 0) 0) && leb (length n) 255 && accepts 0 n
 
 unfoldable pub usesClients : ℕ → List ℕ → Request → Bool
 usesClients setting m r = eqb setting 1 && r .«has_name» && isProper (bytesOf m (r .name))

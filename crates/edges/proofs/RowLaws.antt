@@ -1,21 +1,18 @@
 -- The rows, computed: functions that are proved to find what the definitions say are run on all of them at once, and a law carries that to each row. Assumes nothing.
 use Prim.Native.Nat.{ℕ}
-use mathlib.Core.Bool.{Bool, true, false, not, _&&_, true≢false}
-use mathlib.Core.Path.{_≡_, refl, sym, ap, subst, _∙_}
+use mathlib.Core.Bool.{Bool, true, false}
+use mathlib.Core.Path.{_≡_, refl, sym, ap, subst}
 use mathlib.Core.List.{List, [], _∷_, _++_, map, head-eq-of-cons-eq, tail-eq-of-cons-eq}
 use mathlib.Core.Option.{Option, none, some, bind, orElse, Option·some-ne-none}
-use lib.Dec.{eqb, leb}
-use lib.ListN.{length, getD}
-use borrow.Author.Tests.{eqb-false, ne-eqb, leb-true, le-leb, not-true}
 use Rattle.base.specs.Bytes.{ascii, bigEndian, inBytes, eqBytes}
 use Rattle.base.specs.Dhcid.{identifierType, digestType, wellFormed}
 use Rattle.base.specs.Logic.{Every}
-use Rattle.base.proofs.Tests.{and-left, and-right}
 use Rattle.name.specs.Label.{isUpper, isLower, isDigit, isLabelByte, lower}
-use Rattle.name.specs.Name.{wire, text, Proper, canonical}
+use Rattle.name.specs.Name.{wire, text, canonical}
 use Rattle.name.specs.Promise.{dotted, textOf}
+use Rattle.name.specs.ProperTest.{accepts, isProper}
 use Rattle.name.proofs.TextLaws.{lead, shifted, valid}
-use Rattle.name.proofs.WireLaws.{accepts, decided, accepts-proper, proper-first, proper-short}
+use Rattle.name.proofs.WireLaws.{passes-proper, fails-proper}
 use Rattle.text.specs.Digits.{digitValue}
 use Rattle.dhcid_text.specs.Dhcid.{digit64, base64, joined}
 use Rattle.dhcid_text.specs.DhcidReading.{value64}
@@ -38,23 +35,6 @@ use Rattle.message4.proofs.Theorems.{answer4}
 use Rattle.edges.specs.Rows.{Row, name, identifier, last-group, listing, requestWith, digits, bytes, Holds, labels, rows, Hold}
 
 -- ---- names
-
-isProper : List ℕ → Bool
-isProper n = accepts 0 n && (not (eqb (getD n 0 0) 0) && leb (length n) 255)
-
-proper-by : (n : List ℕ) → isProper n ≡ true → Proper n
-unfolding isProper
-proper-by n t =
-    let labels-pass = and-left (accepts 0 n) (not (eqb (getD n 0 0) 0) && leb (length n) 255) t in
-    let others = and-right (accepts 0 n) (not (eqb (getD n 0 0) 0) && leb (length n) 255) t in
-    let some-first = and-left (not (eqb (getD n 0 0) 0)) (leb (length n) 255) others in
-    let short = and-right (not (eqb (getD n 0 0) 0)) (leb (length n) 255) others in
-    decided n true (sym labels-pass) (eqb-false (getD n 0 0) 0 (not-true (eqb (getD n 0 0) 0) some-first)) (leb-true (length n) 255 short) .if-true refl
-
-passes : (n : List ℕ) → Proper n → isProper n ≡ true
-unfolding isProper
-passes n p =
-    λ i. accepts-proper n p i && (not (ne-eqb (getD n 0 0) 0 (proper-first n p) i) && le-leb (length n) 255 (proper-short n p) i)
 
 textIf : Bool → List ℕ → Option (List ℕ)
 textIf true n = some (textOf (canonical n))
@@ -96,8 +76,8 @@ said (listing t o) = outcome o
 name-holds : (n : List ℕ) (t : Option (List ℕ)) (b : Bool) → isProper n ≡ b → textIf b n ≡ t → Holds (name n t)
 unfolding textIf
 name-holds n none true p e = absurd (Option·some-ne-none (textOf (canonical n)) e)
-name-holds n none false p e = λ q. true≢false (sym (passes n q) ∙ p)
-name-holds n (some t) true p e = (proper-by n p, ap orNone e)
+name-holds n none false p e = fails-proper n p
+name-holds n (some t) true p e = (passes-proper n p, ap orNone e)
 name-holds n (some t) false p e = absurd (Option·some-ne-none t (sym e))
 
 identifier-holds : (d i : List ℕ) (k : ℕ) → (request4 (requestWith d) .refusal ∷ request4 (requestWith d) .«id_type» ∷ identifierBytes (requestWith d) (request4 (requestWith d))) ≡ 0 ∷ k ∷ i

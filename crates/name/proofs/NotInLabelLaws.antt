@@ -13,9 +13,10 @@ use Rattle.base.specs.Logic.{Decides}
 use Rattle.base.proofs.Tests.{and-left, and-right, under, over}
 use Rattle.name.specs.Label.{isUpper, isLower, isDigit, isLabelByte, lower}
 use Rattle.name.specs.Name.{Proper, canonical}
+use Rattle.name.specs.ProperTest.{isNil, accepts}
 use Rattle.name.specs.NotInLabel.{isCanonicalLabelByte, notInLabel, countNotInLabel}
 use Rattle.name.proofs.LabelLaws.{lower-length, lower-upper, lower-other, upper-range, by-case}
-use Rattle.name.proofs.WireLaws.{isNil, accepts, proper-first, accepts-proper, decided, at-last}
+use Rattle.name.proofs.WireLaws.{proper-first, accepts-proper, decided, at-last}
 
 -- ---- counting
 

@@ -12,8 +12,8 @@ use Rattle.base.proofs.Tests.{and-left, and-right}
 use Rattle.name.specs.Label.{Label, isUpper, isLower, isDigit, isLabelByte, lower}
 use Rattle.name.specs.Name.{wire, text}
 unfoldable pub use Rattle.name.specs.Promise.{lead}
+use Rattle.name.specs.ProperTest.{isNil}
 use Rattle.name.proofs.NameLaws.{lowered}
-use Rattle.name.proofs.WireLaws.{isNil}
 
 -- the wire form but for its first length: a dot gives way to the length of the label after it
 unfoldable pub shifted : List ℕ → List ℕ

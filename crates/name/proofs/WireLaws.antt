@@ -1,6 +1,6 @@
--- A test of wire bytes, byte by byte, and that it decides "proper". Assumes nothing.
+-- The test of wire bytes in specs/ProperTest.antt decides "proper". Assumes nothing.
 use Prim.Native.Nat.{ℕ, zero, suc, _+_, _-_, _≤_, _<_}
-use mathlib.Core.Bool.{Bool, true, false, cond, _&&_, true≢false, false≢true}
+use mathlib.Core.Bool.{Bool, true, false, cond, _&&_, not, true≢false, false≢true}
 use mathlib.Core.Path.{_≡_, refl, sym, ap, ap₂, _∙_}
 use mathlib.Core.List.{List, [], _∷_, _++_}
 use native.Mathlib.Numerals.{add-one}
@@ -8,23 +8,13 @@ use native.Mathlib.Omega.{arith}
 use lib.Dec.{leb, eqb}
 use lib.ListN.{length, getD, drop, length-drop, drop-of-length-le}
 use lib.Seq.{drop-cons}
-use borrow.Author.Tests.{eq-eqb, ne-eqb, le-leb, lt-leb, eqb-true, eqb-false, leb-true}
+use borrow.Author.Tests.{eq-eqb, ne-eqb, le-leb, lt-leb, eqb-true, eqb-false, leb-true, not-true}
 use Rattle.base.specs.Logic.{Every, Decides}
 use Rattle.base.proofs.Lists.{no-elements}
 use Rattle.base.proofs.Tests.{and-left, and-right}
 use Rattle.name.specs.Label.{Label, isLabelByte}
 use Rattle.name.specs.Name.{wire, Proper}
-
--- the list is empty
-abbrev pub isNil : List ℕ → Bool
-isNil [] = true
-isNil (b ∷ n) = false
-
--- n is what is left of a name whose label has k bytes to come: these, then labels with their lengths, then a zero byte, and nothing after it
-unfoldable pub accepts : ℕ → List ℕ → Bool
-accepts k [] = false
-accepts zero (b ∷ n) = cond (eqb b 0) (isNil n) (leb b 63 && accepts b n)
-accepts (suc k) (b ∷ n) = isLabelByte b && accepts k n
+use Rattle.name.specs.ProperTest.{isNil, accepts, isProper}
 
 -- ---- what is a name is accepted
 
@@ -131,6 +121,24 @@ decided n b e first short =
           };
       if-false = λ f p. true≢false (sym (accepts-proper n p) ∙ sym e ∙ f);
     }
+
+-- ---- and so does the whole test
+
+pub proper-passes : (n : List ℕ) → Proper n → isProper n ≡ true
+unfolding isProper
+proper-passes n p =
+    λ i. not (ne-eqb (getD n 0 0) 0 (proper-first n p) i) && le-leb (length n) 255 (proper-short n p) i && accepts-proper n p i
+
+pub passes-proper : (n : List ℕ) → isProper n ≡ true → Proper n
+unfolding isProper
+passes-proper n e =
+    let front = and-left (not (eqb (getD n 0 0) 0) && leb (length n) 255) (accepts 0 n) e in
+    let first = not-true (eqb (getD n 0 0) 0) (and-left (not (eqb (getD n 0 0) 0)) (leb (length n) 255) front) in
+    let short = leb-true (length n) 255 (and-right (not (eqb (getD n 0 0) 0)) (leb (length n) 255) front) in
+    decided n true (sym (and-right (not (eqb (getD n 0 0) 0) && leb (length n) 255) (accepts 0 n) e)) (eqb-false (getD n 0 0) 0 first) short .if-true refl
+
+pub fails-proper : (n : List ℕ) → isProper n ≡ false → Proper n → ⊥
+fails-proper n e p = true≢false (sym (proper-passes n p) ∙ e)
 
 -- ---- the test at index i of n
 

@@ -1,4 +1,5 @@
 pub mod Label
 pub mod Name
 pub mod Promise
+pub mod ProperTest
 pub mod NotInLabel

@@ -1,6 +1,6 @@
 use mathlib.Core.Path.{ap, _∙_}
 use borrow.Author.Tests.{not-true, not-false}
-use Rattle.dhcid.specs.Choosing.{isProper}
+use Rattle.name.specs.ProperTest.{isProper}
 use Rattle.dhcid.proofs.ChoiceLaws.{same-test, other-setting, no-name, with-name}
 use borrow.Author.Needs.{needs}
 use Rattle.dhcid.proofs.uses_clients.Statement.{statement}

@@ -7,7 +7,8 @@ use borrow.Author.Needs.{needs}
 use borrow.Author.Tests.{not-true, not-false}
 use lib.ListN.{length, drop, List·getD-eq-default}
 use Rattle.base.proofs.Tests.{no-by}
-use Rattle.name.proofs.WireLaws.{accepts, proper-first, proper-short, decided, at-zero, at-long-label, at-label, at-byte, at-other-byte, at-end-of-bytes}
+use Rattle.name.specs.ProperTest.{accepts}
+use Rattle.name.proofs.WireLaws.{proper-first, proper-short, decided, at-zero, at-long-label, at-label, at-byte, at-other-byte, at-end-of-bytes}
 use Rattle.name.proofs.wire.is_proper.Statement.{statement}
 use Rattle.name.proofs.wire.is_proper.Tie as tie
 
