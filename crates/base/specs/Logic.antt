@@ -19,6 +19,11 @@ abbrev pub IfSome : {A : Type 0} → (A → Type 0) → Option A → Type 0
 IfSome P nothing = Unit {0}
 IfSome P (some a) = P a
 
+-- the first, if there is one
+abbrev pub firstOf : {A : Type 0} → List A → Option A
+firstOf [] = nothing
+firstOf (a ∷ l) = some a
+
 -- an answer b, true or false, decides the statement P
 pub record Decides (b : Bool) (P : Type 0) : Type 0 where
   pub if-true : b ≡ true → P

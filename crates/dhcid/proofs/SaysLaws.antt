@@ -17,6 +17,7 @@ use Rattle.message.specs.Options.{Located, isRepeated, having, optionOf}
 use Rattle.message.specs.Request.{Inside, refusedWith, identifierBytes, identified, accepted}
 use Rattle.message.specs.declared.Part.{Part}
 use Rattle.message.specs.declared.Request.{Request}
+use Rattle.message.proofs.RequestLaws.{refused-not}
 use Rattle.message4.specs.Options4.{located4}
 use Rattle.message4.specs.Message4.{Reads4, judge4, identifier4, name4, isRequest, hasDuid, hlen}
 use Rattle.message4.specs.Reading4.{request4}
@@ -139,11 +140,6 @@ judged-type m ls =
     go false true v = omega arith
     go false false true = identified-type m (optionOf 61 ls) (name4 (optionOf 81 ls))
     go false false false = omega arith
-
--- a refusal is not accepted
-refused-not : (n : ℕ) → refusedWith (n + 1) .refusal ≡ 0 → ⊥
-unfolding refusedWith
-refused-not n e = omega (arith, e)
 
 type4 : {m : List ℕ} {r : Request} → Reads4 m r → r .refusal ≡ 0 → r .«id_type» ≤ 2
 type4 (Reads4.too-short h) z = absurd (refused-not 0 z)

@@ -4,11 +4,16 @@ use mathlib.Core.Bool.{Bool, true, false, cond}
 use mathlib.Core.Path.{_≡_, refl, sym, ap}
 use mathlib.Core.List.{List, [], _∷_, _++_}
 use native.Mathlib.Omega.{arith}
-use lib.Dec.{eqb}
+use lib.Dec.{eqb, ltb, leb·suc-suc}
 use lib.ListN.{length, length-append}
 use borrow.Author.Tests.{lt-ltb}
 use Rattle.message.specs.Options.{Located, having}
 use Rattle.message.specs.Seen.{partOf, seenOf, met}
+
+-- seen again: there is more than one
+pub again-is : (ls : List Located) → seenOf ls .again ≡ ltb 1 (length ls)
+again-is [] = refl
+again-is (l ∷ ls) = sym (leb·suc-suc 1 (length ls))
 
 -- one more is kept as it stands after those before
 pub met-next : (ls : List Located) (l : Located) → met (seenOf ls) (partOf l) ≡ seenOf (ls ++ l ∷ [])

@@ -3,9 +3,10 @@
 use Prim.Native.Nat.{ℕ}
 use mathlib.Core.Bool.{Bool, cond}
 use mathlib.Core.List.{List, [], _∷_}
-use mathlib.Core.Option.{Option, none, some}
+use mathlib.Core.Option.{Option}
 use lib.Dec.{eqb, ltb}
 use lib.ListN.{length}
+use Rattle.base.specs.Logic.{firstOf}
 
 -- an option of a message: its code, where in the message its data start, and the data
 pub record Located : Type 0 where
@@ -22,10 +23,6 @@ having code (l ∷ ls) = cond (eqb (l .code) code) (l ∷ having code ls) (havin
 
 unfoldable pub isRepeated : ℕ → List Located → Bool
 isRepeated code ls = ltb 1 (length (having code ls))
-
-abbrev pub firstOf : List Located → Option Located
-firstOf [] = none
-firstOf (l ∷ ls) = some l
 
 -- the option with a code; none where it is absent. Where it is repeated it is the first one, and nothing comes of it: such a message is refused with 5
 unfoldable pub optionOf : ℕ → List Located → Option Located

@@ -5,17 +5,17 @@ use mathlib.Core.Path.{_≡_, refl, sym, ap, _∙_}
 use mathlib.Core.List.{List, [], _∷_, _++_, append-nil}
 use mathlib.Core.Option.{Option, none, some}
 use native.Mathlib.Omega.{arith}
-use lib.Dec.{leb, ltb, eqb, leb·suc-suc}
+use lib.Dec.{leb, eqb}
 use lib.ListN.{length}
 use borrow.Author.Tests.{le-leb, eqb-true, ne-eqb}
-use Rattle.base.specs.Logic.{Every}
+use Rattle.base.specs.Logic.{Every, firstOf}
 use Rattle.base.specs.Refusal.{optionRepeated, optionOverload, notARequest}
-use Rattle.message.specs.Options.{Located, having, isRepeated, firstOf, optionOf}
+use Rattle.message.specs.Options.{Located, having, isRepeated, optionOf}
 use Rattle.message.specs.Request.{bytesOf, refusedWith, accepted, identified, Identifier}
 use Rattle.message.specs.Seen.{partOf, seenOf, met}
 use Rattle.message.specs.declared.Part.{Part}
 use Rattle.message.specs.declared.seen.Seen.{Seen}
-use Rattle.message.proofs.SeenLaws.{met-next, having-append}
+use Rattle.message.proofs.SeenLaws.{again-is, met-next, having-append}
 use Rattle.message4.specs.Message4.{isRequest, identifier4, name4, judge4}
 use Rattle.message4.specs.Judging4.{wantedOf, metIf, noted, SeenInside, WantedInside, DataIn, dataAt, dataOf, asName, identifiedAs, judgedBy}
 use Rattle.message4.specs.declared.Wanted.{Wanted}
@@ -68,10 +68,6 @@ noted-next ls l =
 found-is : (ls : List Located) → seenOf ls .found ≡ leb 1 (length ls)
 found-is [] = refl
 found-is (l ∷ ls) = sym (le-leb 1 (suc (length ls)) (omega arith))
-
-again-is : (ls : List Located) → seenOf ls .again ≡ ltb 1 (length ls)
-again-is [] = refl
-again-is (l ∷ ls) = sym (leb·suc-suc 1 (length ls))
 
 module _ (m : List ℕ) (code : ℕ) where
   data-same : (l : Located) → DataIn m l → l .code ≡ code → dataAt m code (partOf l) ≡ l

@@ -9,10 +9,10 @@ use lib.Dec.{leb, eqb}
 use lib.ListN.{length, getD, take, drop, length-append, length-drop}
 use lib.Seq.{take-at, drop-at, drop-drop}
 use borrow.Author.Tests.{leb-true, eqb-false}
-use Rattle.base.specs.Logic.{Every, IfSome}
+use Rattle.base.specs.Logic.{Every, IfSome, firstOf}
 use Rattle.base.proofs.Lists.{drop-head, drop-next, every-at}
 use Rattle.base.proofs.Tests.{and-left, and-right}
-use Rattle.message.specs.Options.{Located, having, isRepeated, firstOf, optionOf}
+use Rattle.message.specs.Options.{Located, having, isRepeated, optionOf}
 use Rattle.message.specs.Request.{bytesOf, Inside, refusedWith, noPart, Identifier, identifierBytes, namePart, accepted, identified}
 use Rattle.message.specs.declared.Part.{Part}
 use Rattle.message.specs.declared.Request.{Request}

@@ -9,15 +9,16 @@ use lib.Dec.{leb}
 use lib.ListN.{length, take, drop, length-drop}
 use lib.Seq.{length-take-le}
 use borrow.Author.Tests.{leb-true}
-use Rattle.base.specs.Logic.{Every}
+use Rattle.base.specs.Logic.{Every, firstOf}
 use Rattle.base.specs.Refusal.{optionRepeated}
 use Rattle.base.proofs.Tests.{and-left, and-right}
-use Rattle.message.specs.Options.{Located, having, isRepeated, firstOf, optionOf}
+use Rattle.message.specs.Options.{Located, having, isRepeated, optionOf}
 use Rattle.message.specs.Request.{bytesOf, noPart, refusedWith, identifierBytes, Identifier, hasName, namePart, accepted, identified}
 use Rattle.message.specs.Seen.{partOf}
 use Rattle.message.specs.declared.Part.{Part}
 use Rattle.message.specs.declared.Request.{Request}
 use Rattle.message6.specs.Options6.{Option6, Options6, located6}
+use Rattle.message.proofs.RequestLaws.{refused-not}
 use Rattle.message6.specs.Message6.{relayForward, header, Filled, identifier6, name6, judge6, Level, Reads6}
 use Rattle.message6.specs.Reading6.{part}
 use Rattle.message6.proofs.LevelLaws6.{relay-header, request-header}
@@ -34,11 +35,6 @@ pub record Client (m : List ℕ) (r : Request) : Type 0 where
   pub within : end ≤ length m
   pub stands : Every (Stands m at end) (located6 at list)
   pub answer : r ≡ judge6 (located6 at list)
-
--- a refusal is not accepted
-refused-not : (n : ℕ) → refusedWith (n + 1) .refusal ≡ 0 → ⊥
-unfolding refusedWith
-refused-not n e = omega (arith, e)
 
 module _ (m : List ℕ) (at end : ℕ) (within : end ≤ length m) where
   filled-stand : (type : ℕ) (b : List ℕ) (os : List Option6) → b ≡ part m at end → Filled type b os

@@ -1,22 +1,19 @@
 -- The client's message: what was seen of its options, and what they say. Assumes nothing.
 use mathlib.Core.Bool.{Bool, true, false, cond, _&&_, _||_}
-use mathlib.Core.Path.{_≡_, refl, sym}
+use mathlib.Core.Path.{_≡_, refl}
 use mathlib.Core.List.{List, [], _∷_}
 use mathlib.Core.Option.{none, some}
-use lib.Dec.{leb, ltb, leb·suc-suc}
+use lib.Dec.{leb}
 use lib.ListN.{length}
+use Rattle.base.specs.Logic.{firstOf}
 use Rattle.base.specs.Refusal.{optionRepeated, noIdentifier}
-use Rattle.message.specs.Options.{Located, having, isRepeated, firstOf, optionOf}
+use Rattle.message.specs.Options.{Located, having, isRepeated, optionOf}
 use Rattle.message.specs.Request.{refusedWith, noPart, accepted, identified}
 use Rattle.message.specs.Seen.{partOf, seenOf}
 use Rattle.message.specs.declared.Part.{Part}
+use Rattle.message.proofs.SeenLaws.{again-is}
 use Rattle.message6.specs.Message6.{identifier6, name6, judge6}
 use Rattle.message6.specs.Reading6.{acceptedWith, isDuid, isName, nameIn, seenIn, judged}
-
--- seen again: there is more than one
-again : (ls : List Located) → seenOf ls .again ≡ ltb 1 (length ls)
-again [] = refl
-again (l ∷ ls) = sym (leb·suc-suc 1 (length ls))
 
 -- by two tests: of the identifier, and of the name
 tested : (t u : Bool) (id name : Part) → cond t (cond u (acceptedWith id true name) (acceptedWith id false noPart)) (refusedWith noIdentifier)
@@ -37,4 +34,4 @@ said (d ∷ ds) (n ∷ ns) = tested (leb 3 (length (d .bytes)) && leb (length (d
 pub judged-seen : (ls : List Located) → judged (seenIn ls) ≡ judge6 ls
 unfolding judged seenIn judge6 isRepeated optionOf
 judged-seen ls =
-    λ i. cond (again (having 1 ls) i || again (having 39 ls) i) (refusedWith optionRepeated) (said (having 1 ls) (having 39 ls) i)
+    λ i. cond (again-is (having 1 ls) i || again-is (having 39 ls) i) (refusedWith optionRepeated) (said (having 1 ls) (having 39 ls) i)

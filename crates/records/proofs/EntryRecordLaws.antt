@@ -5,13 +5,13 @@ use mathlib.Core.List.{List, [], _∷_, _++_, append-nil}
 use mathlib.Core.Option.{Option, none, some}
 use native.Mathlib.Omega.{arith}
 use lib.ListN.{length, length-append}
-use Rattle.base.specs.Logic.{Every}
+use Rattle.base.specs.Logic.{Every, firstOf}
 use Rattle.base.proofs.Lists.{every-append}
 use Rattle.grammar.specs.Listing.{RecordType}
 use Rattle.slots.specs.Fields.{inField}
 use Rattle.slots.specs.Form.{TableEntry, flag, flags}
 use Rattle.records.specs.Written.{recordIf, entryRecords}
-use Rattle.records.specs.Gathered.{dataOf, first}
+use Rattle.records.specs.Gathered.{dataOf}
 use Rattle.records.specs.Promise.{rtypeOf}
 use Rattle.records.proofs.DataLaws.{apart-types, of-is, other-owner, other-type, data-none, data-one, data-not-one, data-append}
 
@@ -22,7 +22,7 @@ abbrev pub listed : Option (List ℕ) → List (List ℕ)
 listed none = []
 listed (some x) = x ∷ []
 
-pub first-listed : (o : Option (List ℕ)) → first (listed o) ≡ o
+pub first-listed : (o : Option (List ℕ)) → firstOf (listed o) ≡ o
 first-listed none = refl
 first-listed (some x) = refl
 

@@ -119,6 +119,9 @@ module _ (n : List ℕ) where
   except-all [] h = except-none
   except-all (m ∷ ns) (Every.more d h) = except-other m ns d ∙ ap (_∷_ m) (except-all ns h)
 
+  pub except-twice : (ns : List (List ℕ)) → except n (except n ns) ≡ except n ns
+  except-twice ns = except-all (except n ns) (except-apart ns)
+
   pub distinct-except : (ns : List (List ℕ)) → Distinct ns → Distinct (except n ns)
   distinct-except [] h = subst Distinct (sym except-none) Distinct.none
   distinct-except (m ∷ ns) (Distinct.more d h) =

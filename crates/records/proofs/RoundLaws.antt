@@ -5,16 +5,16 @@ use mathlib.Core.Path.{_≡_, refl, ap, ap₂, subst, _∙_}
 use mathlib.Core.List.{List, [], _∷_, _++_, map, append-nil}
 use native.Mathlib.Omega.{arith}
 use lib.ListN.{length}
-use Rattle.base.specs.Logic.{Every}
+use Rattle.base.specs.Logic.{Every, firstOf}
 use Rattle.grammar.specs.Listing.{RecordType, ResourceRecord}
 use Rattle.slots.specs.Entry.{names, Distinct}
 use Rattle.slots.specs.Fields.{inField}
 use Rattle.slots.specs.Form.{TableEntry, flags, WellFormed}
 use Rattle.records.specs.Written.{entryRecords, tableRecords}
-use Rattle.records.specs.Gathered.{dataOf, Single, except, owners, first, gathered, tableOf}
+use Rattle.records.specs.Gathered.{dataOf, Single, except, owners, gathered, tableOf}
 use Rattle.records.specs.Promise.{rtypeOf}
 use Rattle.records.proofs.DataLaws.{data-none, data-append}
-use Rattle.records.proofs.OwnerLaws.{by-name, among, among-apart, apart-among, except-same, except-apart, except-all, owners-none, owners-more, no-data}
+use Rattle.records.proofs.OwnerLaws.{by-name, among, among-apart, apart-among, except-same, except-all, except-twice, owners-none, owners-more, no-data}
 use Rattle.records.proofs.MappedLaws.{mapped-still}
 use Rattle.records.proofs.StoredLaws.{table-none, gathered-name}
 use Rattle.records.proofs.EntryRecordLaws.{listed, first-listed, length-listed, entry-data, entry-else, entry-owner, entry-some}
@@ -22,14 +22,11 @@ use Rattle.records.proofs.EntryRecordLaws.{listed, first-listed, length
 -- ---- records of one owner before others
 
 module _ (n : List ℕ) where
-  except-twice : (ns : List (List ℕ)) → except n (except n ns) ≡ except n ns
-  except-twice ns = except-all n (except n ns) (except-apart n ns)
-
   except-before : (a rs : List ResourceRecord) → Every (λ r. r .owner ≡ n) a → except n (owners (a ++ rs)) ≡ except n (owners rs)
   except-before [] rs h = refl
   except-before (r ∷ a) rs (Every.more e h) =
       ap (except n) (owners-more r (a ++ rs)) ∙ except-same n (r .owner) (except (r .owner) (owners (a ++ rs))) e
-      ∙ ap (λ (m : List ℕ). except n (except m (owners (a ++ rs)))) e ∙ except-twice (owners (a ++ rs)) ∙ except-before a rs h
+      ∙ ap (λ (m : List ℕ). except n (except m (owners (a ++ rs)))) e ∙ except-twice n (owners (a ++ rs)) ∙ except-before a rs h
 
   -- their owner stands first
   owners-before : (a rs : List ResourceRecord) → Every (λ r. r .owner ≡ n) a → 1 ≤ length a → owners (a ++ rs) ≡ n ∷ except n (owners rs)
@@ -57,13 +54,13 @@ module _ (e : TableEntry) (rs : List ResourceRecord) (new : among (e .name) (own
   gathered-entry : gathered (entryRecords e ++ rs) (e .name) ≡ e
   unfolding gathered
   gathered-entry =
-      let has : (k : RecordType) → first (dataOf (e .name) k (entryRecords e ++ rs)) ≡ inField (rtypeOf k) e = λ k. ap first (data-own k) ∙ first-listed (inField (rtypeOf k) e) in
+      let has : (k : RecordType) → firstOf (dataOf (e .name) k (entryRecords e ++ rs)) ≡ inField (rtypeOf k) e = λ k. ap firstOf (data-own k) ∙ first-listed (inField (rtypeOf k) e) in
       λ i. record { name = e .name; a = has RecordType.A i; aaaa = has RecordType.AAAA i; holder = has RecordType.DHCID i }
 
   gathered-else : (n : List ℕ) → (e .name ≡ n → ⊥) → gathered (entryRecords e ++ rs) n ≡ gathered rs n
   unfolding gathered
   gathered-else n d =
-      λ i. record { name = n; a = first (data-else n RecordType.A d i); aaaa = first (data-else n RecordType.AAAA d i); holder = first (data-else n RecordType.DHCID d i) }
+      λ i. record { name = n; a = firstOf (data-else n RecordType.A d i); aaaa = firstOf (data-else n RecordType.AAAA d i); holder = firstOf (data-else n RecordType.DHCID d i) }
 
   module _ (flagged : 1 ≤ flags e) where
     owners-entry : owners (entryRecords e ++ rs) ≡ e .name ∷ owners rs

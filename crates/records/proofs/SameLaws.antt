@@ -5,23 +5,24 @@ use mathlib.Core.List.{List, [], _∷_}
 use mathlib.Core.Option.{Option·some-injective, Option·some-ne-none, Option·none-ne-some}
 use native.Mathlib.Omega.{arith}
 use lib.ListN.{length, drop-of-length-le}
+use Rattle.base.specs.Logic.{firstOf}
 use Rattle.grammar.specs.Listing.{RecordType, ResourceRecord}
 use Rattle.slots.specs.Entry.{names}
 use Rattle.slots.specs.Fields.{inField}
 use Rattle.table.specs.Steps.{find}
-use Rattle.records.specs.Gathered.{dataOf, Single, owners, first, gathered, tableOf}
+use Rattle.records.specs.Gathered.{dataOf, Single, owners, gathered, tableOf}
 use Rattle.records.specs.Promise.{rtypeOf}
 use Rattle.records.proofs.OwnerLaws.{among, by-among, no-data}
 use Rattle.records.proofs.StoredLaws.{table-names, found-some}
 
-gathered-field : (rs : List ResourceRecord) (n : List ℕ) (k : RecordType) → inField (rtypeOf k) (gathered rs n) ≡ first (dataOf n k rs)
+gathered-field : (rs : List ResourceRecord) (n : List ℕ) (k : RecordType) → inField (rtypeOf k) (gathered rs n) ≡ firstOf (dataOf n k rs)
 unfolding gathered
 gathered-field rs n RecordType.A = refl
 gathered-field rs n RecordType.AAAA = refl
 gathered-field rs n RecordType.DHCID = refl
 
 -- lists of at most one element, by their first
-one-first : (l m : List (List ℕ)) → length l ≤ 1 → length m ≤ 1 → first l ≡ first m → l ≡ m
+one-first : (l m : List (List ℕ)) → length l ≤ 1 → length m ≤ 1 → firstOf l ≡ firstOf m → l ≡ m
 one-first [] [] h k e = refl
 one-first [] (y ∷ m) h k e = absurd (Option·none-ne-some y e)
 one-first (x ∷ l) [] h k e = absurd (Option·some-ne-none x e)

@@ -5,7 +5,7 @@ use mathlib.Core.Path.{_≡_, refl, sym, subst}
 use mathlib.Core.List.{List, [], _∷_}
 use native.Mathlib.Omega.{arith}
 use lib.ListN.{length}
-use Rattle.base.specs.Logic.{Every, IfSome}
+use Rattle.base.specs.Logic.{Every, IfSome, firstOf}
 use Rattle.base.proofs.Lists.{every-map, every-by}
 use Rattle.name.specs.Name.{Proper, canonical}
 use Rattle.grammar.specs.Listing.{RecordType, ResourceRecord}
@@ -13,7 +13,7 @@ use Rattle.writer.specs.Line
 use Rattle.writer.specs.Line.{RdataOf}
 use Rattle.slots.specs.Entry.{names, Distinct}
 use Rattle.slots.specs.Form.{flag, flags, WellFormed, tableBytes, IsTable, Sound}
-use Rattle.records.specs.Gathered.{isOf, dataOf, owners, first, gathered, tableOf}
+use Rattle.records.specs.Gathered.{isOf, dataOf, owners, gathered, tableOf}
 use Rattle.records.proofs.DataLaws.{is-of, data-none, data-same, data-other, length-data-append}
 use Rattle.records.proofs.OwnerLaws.{every-except, owners-none, owners-more, owners-distinct, Owns, owns-first}
 use Rattle.records.proofs.StoredLaws.{table-names, length-table-of}
@@ -52,13 +52,13 @@ module _ (n : List ℕ) (k : RecordType) where
   data-fit [] h = subst (Every (RdataOf k)) (sym (data-none n k)) Every.none
   data-fit (r ∷ rs) (Every.more w h) = by-kind r rs (isOf n k r) refl (w .rdata) (data-fit rs h)
 
-first-fits : {P : List ℕ → Type 0} (l : List (List ℕ)) → Every P l → IfSome P (first l)
+first-fits : {P : List ℕ → Type 0} (l : List (List ℕ)) → Every P l → IfSome P (firstOf l)
 first-fits [] h = tt
 first-fits (x ∷ l) (Every.more p h) = p
 
 -- ---- the entries
 
-first-flag : (bit : ℕ) (l : List (List ℕ)) → 1 ≤ length l → flag bit (first l) ≡ bit
+first-flag : (bit : ℕ) (l : List (List ℕ)) → 1 ≤ length l → flag bit (firstOf l) ≡ bit
 first-flag bit [] h = absurd (omega arith)
 first-flag bit (x ∷ l) h = refl
 

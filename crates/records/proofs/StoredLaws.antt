@@ -5,13 +5,14 @@ use mathlib.Core.Path.{_≡_, refl, sym, ap, ap₂, _∙_}
 use mathlib.Core.List.{List, [], _∷_, _++_, map, append-nil}
 use mathlib.Core.Option.{none, some, Option·some-ne-none}
 use lib.ListN.{length, length-map}
+use Rattle.base.specs.Logic.{firstOf}
 use Rattle.base.proofs.Lists.{map-append}
 use Rattle.grammar.specs.Listing.{RecordType, ResourceRecord}
 use Rattle.slots.specs.Entry.{names}
 use Rattle.slots.specs.Fields.{bare, withField}
 use Rattle.slots.specs.Form.{TableEntry}
 use Rattle.table.specs.Steps.{find}
-use Rattle.records.specs.Gathered.{isOf, dataOf, owners, first, gathered, tableOf}
+use Rattle.records.specs.Gathered.{isOf, dataOf, owners, gathered, tableOf}
 use Rattle.records.specs.Promise.{rtypeOf, writtenBy, written, stored}
 use Rattle.records.proofs.DataLaws.{apart-types, of-is, other-owner, other-type, data-append, data-one, data-not-one}
 use Rattle.records.proofs.OwnerLaws.{among, by-among, among-apart, owners-distinct, owners-known, owners-new, no-data}
@@ -55,7 +56,7 @@ module _ (rs : List ResourceRecord) where
     unfolding gathered
     gathered-bare h =
         let nothing : (k : RecordType) → dataOf n k rs ≡ [] = λ k. no-data n k rs h in
-        λ i. record { name = n; a = first (nothing RecordType.A i); aaaa = first (nothing RecordType.AAAA i); holder = first (nothing RecordType.DHCID i) }
+        λ i. record { name = n; a = firstOf (nothing RecordType.A i); aaaa = firstOf (nothing RecordType.AAAA i); holder = firstOf (nothing RecordType.DHCID i) }
 
 -- ---- one record more, at the end
 
@@ -73,31 +74,31 @@ module _ (seen : List ResourceRecord) (r : ResourceRecord) where
   unfolding gathered
   gathered-other n d =
       let still : (k : RecordType) → dataOf n k seen ≡ dataOf n k (seen ++ r ∷ []) = λ k. sym (data-still n k (other-owner n k r d)) in
-      λ i. record { name = n; a = first (still RecordType.A i); aaaa = first (still RecordType.AAAA i); holder = first (still RecordType.DHCID i) }
+      λ i. record { name = n; a = firstOf (still RecordType.A i); aaaa = firstOf (still RecordType.AAAA i); holder = firstOf (still RecordType.DHCID i) }
 
   -- under its own name there is that record besides, if there was none of its type
   gathered-by : (n : List ℕ) (k : RecordType) → r .owner ≡ n → r .rtype ≡ k → dataOf n k seen ≡ [] → gathered (seen ++ r ∷ []) n ≡ withField (rtypeOf k) (r .rdata) (gathered seen n)
   unfolding gathered
   gathered-by n k e t none-yet = go k t none-yet
     where
-      still : (j : RecordType) → (r .rtype ≡ j → ⊥) → first (dataOf n j (seen ++ r ∷ [])) ≡ first (dataOf n j seen)
-      still j d = ap first (data-still n j (other-type n j r d))
+      still : (j : RecordType) → (r .rtype ≡ j → ⊥) → firstOf (dataOf n j (seen ++ r ∷ [])) ≡ firstOf (dataOf n j seen)
+      still j d = ap firstOf (data-still n j (other-type n j r d))
 
       go : (k : RecordType) → r .rtype ≡ k → dataOf n k seen ≡ [] → gathered (seen ++ r ∷ []) n ≡ withField (rtypeOf k) (r .rdata) (gathered seen n)
       go RecordType.A t h =
-          let own = ap first (data-first n RecordType.A (of-is n RecordType.A r e t) h) in
+          let own = ap firstOf (data-first n RecordType.A (of-is n RecordType.A r e t) h) in
           let aaaa = still RecordType.AAAA (λ s. apart-types RecordType.A RecordType.AAAA refl (sym t ∙ s)) in
           let dhcid = still RecordType.DHCID (λ s. apart-types RecordType.A RecordType.DHCID refl (sym t ∙ s)) in
           λ i. record { name = n; a = own i; aaaa = aaaa i; holder = dhcid i }
       go RecordType.AAAA t h =
           let a = still RecordType.A (λ s. apart-types RecordType.AAAA RecordType.A refl (sym t ∙ s)) in
-          let own = ap first (data-first n RecordType.AAAA (of-is n RecordType.AAAA r e t) h) in
+          let own = ap firstOf (data-first n RecordType.AAAA (of-is n RecordType.AAAA r e t) h) in
           let dhcid = still RecordType.DHCID (λ s. apart-types RecordType.AAAA RecordType.DHCID refl (sym t ∙ s)) in
           λ i. record { name = n; a = a i; aaaa = own i; holder = dhcid i }
       go RecordType.DHCID t h =
           let a = still RecordType.A (λ s. apart-types RecordType.DHCID RecordType.A refl (sym t ∙ s)) in
           let aaaa = still RecordType.AAAA (λ s. apart-types RecordType.DHCID RecordType.AAAA refl (sym t ∙ s)) in
-          let own = ap first (data-first n RecordType.DHCID (of-is n RecordType.DHCID r e t) h) in
+          let own = ap firstOf (data-first n RecordType.DHCID (of-is n RecordType.DHCID r e t) h) in
           λ i. record { name = n; a = a i; aaaa = aaaa i; holder = own i }
 
   -- an entry with that record

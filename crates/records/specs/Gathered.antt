@@ -3,10 +3,10 @@
 use Prim.Native.Nat.{ℕ, _≤_}
 use mathlib.Core.Bool.{Bool, cond, _&&_}
 use mathlib.Core.List.{List, [], _∷_, map}
-use mathlib.Core.Option.{Option, none, some}
 use lib.Dec.{eqb}
 use lib.ListN.{length}
 use Rattle.base.specs.Bytes.{eqBytes}
+use Rattle.base.specs.Logic.{firstOf}
 use Rattle.grammar.specs.Listing.{RecordType, ResourceRecord}
 use Rattle.entry.specs.Parts.{number}
 use Rattle.slots.specs.Form.{TableEntry}
@@ -38,14 +38,9 @@ unfoldable pub owners : List ResourceRecord → List (List ℕ)
 owners [] = []
 owners (r ∷ rs) = r .owner ∷ except (r .owner) (owners rs)
 
--- the first, if there is one
-abbrev pub first : List (List ℕ) → Option (List ℕ)
-first [] = none
-first (x ∷ xs) = some x
-
 -- what the records rs put under the name n
 unfoldable pub gathered : List ResourceRecord → List ℕ → TableEntry
-gathered rs n = record { name = n; a = first (dataOf n RecordType.A rs); aaaa = first (dataOf n RecordType.AAAA rs); holder = first (dataOf n RecordType.DHCID rs) }
+gathered rs n = record { name = n; a = firstOf (dataOf n RecordType.A rs); aaaa = firstOf (dataOf n RecordType.AAAA rs); holder = firstOf (dataOf n RecordType.DHCID rs) }
 
 unfoldable pub tableOf : List ResourceRecord → List TableEntry
 tableOf rs = map (gathered rs) (owners rs)

@@ -10,7 +10,7 @@ use Rattle.base.proofs.Tests.{eq-eqBytes, ne-eqBytes}
 use Rattle.grammar.specs.Listing.{RecordType, ResourceRecord}
 use Rattle.records.specs.Gathered.{Single, except, owners}
 use Rattle.records.proofs.DataLaws.{apart-types, of-is, other-owner, other-type, data-one, data-not-one, length-data-append}
-use Rattle.records.proofs.OwnerLaws.{by-name, except-none, except-same, except-other, except-apart, except-all, owners-none, owners-more}
+use Rattle.records.proofs.OwnerLaws.{by-name, except-none, except-same, except-other, except-twice, owners-none, owners-more}
 use Rattle.table_fault.proofs.TypeLaws.{many}
 
 -- ---- records but for those of one name
@@ -33,9 +33,6 @@ unfolding without
 without-none n = refl
 
 -- ---- their owners
-
-except-twice : (n : List ℕ) (ns : List (List ℕ)) → except n (except n ns) ≡ except n ns
-except-twice n ns = except-all n (except n ns) (except-apart n ns)
 
 except-swap : (m n : List ℕ) (ns : List (List ℕ)) → except m (except n ns) ≡ except n (except m ns)
 except-swap m n [] = ap (except m) (except-none n) ∙ except-none m ∙ sym (ap (except n) (except-none m) ∙ except-none n)
