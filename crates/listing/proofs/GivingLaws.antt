@@ -1,5 +1,6 @@
 -- What has to be given is what the text comes to; and a step gives the first of it. Assumes nothing.
 use Prim.Native.Nat.{ℕ, _+_, _-_, _≤_, _<_}
+use mathlib.Core.Bool.{Bool, true, false, true≢false}
 use mathlib.Core.Path.{_≡_, refl, sym, ap, subst, subst₂, _∙_}
 use mathlib.Core.List.{List, [], _∷_, map}
 use native.Mathlib.Nat.{add-sub-of-le}
@@ -19,6 +20,16 @@ use Rattle.listing.specs.declared.Found.the-variants as found
 use Rattle.listing.specs.declared.Step.{Step}
 use Rattle.listing.proofs.SpellingLaws.{spells-by, refused-by}
 use Rattle.listing.specs.Giving.{Last, end, refusal, Gives, too-long, whole, faulty, Next, Answers, Asked, none, more, told, answers}
+
+-- ---- the last answer is one of the two
+
+isEnd : Last → Bool
+isEnd end = true
+isEnd (refusal n p) = false
+
+pub end≢refusal : {n p : ℕ} → end ≡ refusal n p → ⊥
+unfolding isEnd
+end≢refusal e = true≢false (ap isEnd e)
 
 -- ---- what has to be given, by what the text comes to
 

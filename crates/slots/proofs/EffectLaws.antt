@@ -68,7 +68,7 @@ field-fits A = omega arith
 field-fits Aaaa = omega arith
 field-fits Dhcid = omega arith
 
-field-size-most : (k : Rtype) → fieldSize k ≤ 35
+pub field-size-most : (k : Rtype) → fieldSize k ≤ 35
 field-size-most A = omega arith
 field-size-most Aaaa = omega arith
 field-size-most Dhcid = omega arith

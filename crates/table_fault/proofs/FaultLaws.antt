@@ -1,7 +1,6 @@
 -- From what sweeps have found to the first fault of a listing and of its records. Assumes nothing.
 use Prim.Native.Nat.{ℕ, _-_, _≤_, _<_}
-use mathlib.Core.Bool.{Bool, true, false, true≢false}
-use mathlib.Core.Path.{_≡_, refl, sym, ap, subst}
+use mathlib.Core.Path.{_≡_, refl, sym, subst}
 use mathlib.Core.Logic.{⊎-elim, inl, inr}
 use mathlib.Core.List.{List}
 use native.Mathlib.Omega.{arith}
@@ -12,14 +11,11 @@ use Rattle.base.specs.declared.Answer.the-variants.{Accepted, Refused}
 use Rattle.grammar.specs.Listing.{ResourceRecord}
 use Rattle.listing.specs.Reading.{limit}
 use Rattle.listing.specs.Giving.{Last, end, refusal, Gives, too-long, whole, faulty}
+use Rattle.listing.proofs.GivingLaws.{end≢refusal}
 use Rattle.records.specs.Gathered.{Single, owners}
 use Rattle.table_fault.specs.Sweeping.{Placed, Beyond, Sweeps, RepeatOrFull, faultOr, Judges}
 use Rattle.table_fault.specs.declared.Outcome.{Outcome}
 use Rattle.table_fault.specs.declared.Outcome.the-variants as outcome
-
-isEnd : Last → Bool
-isEnd end = true
-isEnd (refusal n p) = false
 
 -- of the records rs as much is known as of those that are left from `at` on
 pub record Sought (t : List ℕ) (at : ℕ) (rs : List ResourceRecord) : Type 0 where
@@ -42,8 +38,7 @@ module _ (t : List ℕ) (at : ℕ) (rs : List ResourceRecord) (s : Sought t at r
 
   -- no entry is faulty
   pub sought-fault : (n p : ℕ) → o ≡ outcome.Fault n p → ⊥
-  unfolding isEnd
-  sought-fault n p e = true≢false (ap isEnd (subst (Sweeps t at 64 (s .left) end ps) e sweeps))
+  sought-fault n p e = end≢refusal (subst (Sweeps t at 64 (s .left) end ps) e sweeps)
 
   module _ (next : ℕ) (e : o ≡ outcome.Beyond next) where
     beyond : Beyond t at 64 (s .left) next

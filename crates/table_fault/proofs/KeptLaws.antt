@@ -13,8 +13,9 @@ use borrow.Author.Tests.{ne-eqb}
 use Rattle.base.specs.Logic.{Decides}
 use Rattle.name.specs.Name.{Proper}
 use Rattle.name.proofs.WireLaws.{proper-short}
+use Rattle.writer.proofs.WellFormedLaws.{owner-proper}
 use Rattle.table_fault.specs.Sweeping.{hashed, tagged, mark, typeBit, BeginsWith, KeptName, Kept, KeptSome, NotBefore, IndexOf}
-use Rattle.table_fault.proofs.WordLaws.{owner-proper, begins-within}
+use Rattle.table_fault.proofs.WordLaws.{begins-within}
 
 -- one byte more
 pub hashed-more : (n : List ℕ) (h i : ℕ) → i < length n → hashed h (drop i n) ≡ hashed ((h * 31 + getD n i 0) % 2 ^ 32) (drop (i + 1) n)

@@ -3,7 +3,7 @@ use Prim.Native.Nat.{ℕ, _≤_, _<_}
 use mathlib.Core.Bool.{true, false, true≢false, false≢true}
 use mathlib.Core.Path.{_≡_, sym, ap, subst, _∙_}
 use mathlib.Core.List.{List}
-use lib.ListN.{length, take, drop}
+use lib.ListN.{length, drop}
 use Rattle.base.specs.Logic.{Every}
 use Rattle.grammar.specs.Listing.{ResourceRecord}
 use Rattle.entry.specs.EntryIs.{held, EntryIs}
@@ -12,26 +12,18 @@ use Rattle.entry.specs.declared.Entry.{Entry}
 use Rattle.entry.specs.declared.Record.{Record}
 use Rattle.name.specs.Name.{Proper}
 use Rattle.writer.specs.Line.{WellFormed}
-use Rattle.writer.proofs.PlaceLaws.{owner-held}
+use Rattle.writer.proofs.PlaceLaws.{nameIn, name-held}
+use Rattle.writer.proofs.WellFormedLaws.{owner-proper}
 use Rattle.writer.proofs.Theorems.{spelled-well-formed}
 use Rattle.listing.specs.Reading.{limit}
 use Rattle.listing.specs.Giving.{end, Gives, whole}
 use Rattle.listing.proofs.Theorems.{some-giving}
 use Rattle.table_fault.specs.Sweeping.{mark, typeBit, IndexOf, SeenIs}
-use Rattle.table_fault.proofs.WordLaws.{owner-proper}
 use Rattle.table_fault.proofs.GivenLaws.{fault-given, nothing-given, record-given}
 
 -- every record that is to be given is well formed
 pub given-well-formed : {t : List ℕ} {at : ℕ} {rs : List ResourceRecord} → Gives t at rs end → Every WellFormed rs
 given-well-formed {t} {at} {rs} (whole fits s) = spelled-well-formed (drop at t) rs s
-
--- the owner's bytes in a place
-abbrev pub nameIn : Record → List ℕ
-nameIn p = take (p .«owner_len») (p .owner)
-
-name-held : (p : Record) (r : ResourceRecord) → p ≡ held r → nameIn p ≡ r .owner
-unfolding held
-name-held p r h = ap nameIn h ∙ owner-held (r .owner)
 
 type-held : (p : Record) (r : ResourceRecord) → p ≡ held r → typeBit (p .rtype) ≡ typeBit ((held r) .rtype)
 type-held p r h = ap (λ (q : Record). typeBit (q .rtype)) h

@@ -24,6 +24,7 @@ use Rattle.grammar.proofs.OwnerReader.{ownerOf, owner-reads}
 use Rattle.grammar.proofs.Content.{Content, one, fault, Headed, headOf, rdataOf, byRdata, byOwner, contentOf}
 use Rattle.grammar.proofs.Reader.{Verdict, right, wrong, after, shifted, byEnding, read}
 use Rattle.grammar.proofs.ReaderLaws.{read-step}
+use Rattle.writer.proofs.WellFormedLaws.{owner-proper}
 use Rattle.table_fault.specs.Sweeping.{BeginsWith}
 
 -- ---- the first word of a text that begins with a word's byte
@@ -115,9 +116,6 @@ module _ (w n : List ℕ) (o : Owner w n) where
 
   form : n ≡ wire (lowered ls)
   form = o .form ∙ ap canonical (o .spells .form) ∙ canonical-wire ls (o .spells .name .labels)
-
-  pub owner-proper : Proper n
-  owner-proper = record { labels = lowered ls; name = name-lowered ls (o .spells .name); form = form }
 
   pub owner-length : length w + 1 ≡ length n
   owner-length =

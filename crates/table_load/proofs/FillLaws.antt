@@ -1,6 +1,6 @@
 -- A table that is filled record by record. Assumes nothing.
 use Prim.Native.Nat.{ℕ, _+_, _*_, _≤_, _<_}
-use mathlib.Core.Bool.{Bool, true, false, cond, true≢false}
+use mathlib.Core.Bool.{Bool, false, cond}
 use mathlib.Core.Path.{_≡_, refl, sym, ap, subst, _∙_}
 use mathlib.Core.List.{List, [], _∷_, _++_, append-nil}
 use native.Mathlib.Omega.{arith}
@@ -17,7 +17,8 @@ use Rattle.entry.specs.declared.Content.the-variants
 use Rattle.entry.specs.declared.Entry.{Entry}
 use Rattle.writer.specs.Line.{WellFormed, Holds}
 use Rattle.listing.specs.Reading.{limit}
-use Rattle.listing.specs.Giving.{Last, end, refusal, Gives}
+use Rattle.listing.specs.Giving.{end, Gives}
+use Rattle.listing.proofs.GivingLaws.{end≢refusal}
 use Rattle.listing.proofs.Theorems.{one-giving}
 use Rattle.listing.proofs.NextLaws.{within-limit, none-beyond}
 use Rattle.slots.specs.Form.{TableEntry, slotSize, tableBytes, IsTable, Sound}
@@ -39,10 +40,6 @@ use Rattle.table_fault.proofs.SweepLaws.{index-known, index-new}
 use Rattle.table_load.specs.Promise.{AtSlot, Storable, Loadable, Filled}
 use Rattle.table_load.specs.declared.Progress.{Progress}
 use Rattle.table_load.proofs.SlotLaws.{place-held, place-free}
-
-isEnd : Last → Bool
-isEnd end = true
-isEnd (refusal n p) = false
 
 -- ---- records before and ahead
 
@@ -173,8 +170,7 @@ module _ (t ps : List ℕ) (p : Progress) (b : List ℕ) (f : Filled t ps p b) w
         }
 
     pub no-fault : (k : ℕ) → e .content ≡ the-variants.Fault k → ⊥
-    unfolding isEnd
-    no-fault k q = true≢false (ap isEnd (fault-given t fits (p .at) (f .ahead) end (f .gives) e entry k q))
+    no-fault k q = end≢refusal (fault-given t fits (p .at) (f .ahead) end (f .gives) e entry k q)
 
   -- ---- the end
 

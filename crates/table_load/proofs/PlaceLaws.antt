@@ -14,7 +14,7 @@ use Rattle.entry.specs.Parts.{number}
 use Rattle.entry.specs.EntryIs.{held}
 use Rattle.entry.specs.declared.Record.{Record}
 use Rattle.writer.specs.Line.{RdataOf, Holds}
-use Rattle.writer.proofs.PlaceLaws.{owner-held}
+use Rattle.writer.proofs.PlaceLaws.{nameIn, name-held}
 use Rattle.slots.specs.Fields.{fieldSize}
 use Rattle.slots.specs.Form.{TableEntry}
 use Rattle.slots.specs.declared.Rtype.{Rtype}
@@ -23,9 +23,6 @@ use Rattle.records.specs.Promise.{rtypeOf, written, stored}
 use Rattle.table_load.specs.Promise.{numbered, AtSlot, Storable}
 
 -- ---- the parts of a place
-
-abbrev pub nameIn : Record → List ℕ
-nameIn p = take (p .«owner_len») (p .owner)
 
 -- the type by the number that stands in a place
 type-numbered : (k : RecordType) → numbered (number k) ≡ rtypeOf k
@@ -40,19 +37,13 @@ data-size RecordType.A bs e = e
 data-size RecordType.AAAA bs e = e
 data-size RecordType.DHCID bs e = dhcid-length bs e
 
-pub size-fits : (k : Rtype) → fieldSize k ≤ 35
-size-fits rtype.A = omega arith
-size-fits rtype.Aaaa = omega arith
-size-fits rtype.Dhcid = omega arith
-
 data-held : (bs : List ℕ) (n : ℕ) → length bs ≡ n → take n (zeroFilled bs) ≡ bs
 unfolding zeroFilled
 data-held bs n e = take-at bs (replicate (35 - length bs) 0) n e
 
 module _ (p : Record) (r : ResourceRecord) (h : Holds p r) where
   name-is : nameIn p ≡ r .owner
-  unfolding held
-  name-is = ap nameIn (h .place) ∙ owner-held (r .owner)
+  name-is = name-held p r (h .place)
 
   type-is : (k : Rtype) → k ≡ numbered (p .rtype) → k ≡ rtypeOf (r .rtype)
   unfolding held

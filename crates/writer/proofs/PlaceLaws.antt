@@ -25,6 +25,14 @@ pub owner-held : (n : List ℕ) → take (length n) (padded n) ≡ n
 unfolding padded
 owner-held n = take-at n (replicate (255 - length n) 0) (length n) refl
 
+-- the owner's bytes in a place
+abbrev pub nameIn : Record → List ℕ
+nameIn p = take (p .«owner_len») (p .owner)
+
+pub name-held : (p : Record) (r : ResourceRecord) → p ≡ held r → nameIn p ≡ r .owner
+unfolding held
+name-held p r h = ap nameIn h ∙ owner-held (r .owner)
+
 rdata-fits : (k : RecordType) (bs : List ℕ) → RdataOf k bs → length bs ≤ 35
 unfolding RdataOf
 rdata-fits RecordType.A bs e = omega arith

@@ -36,7 +36,7 @@ two-each (x ∷ xs) = omega (arith, length-append (bigEndian 2 x) (inBytes 2 xs)
 spelled-proper : (w n : List ℕ) → Spells w n → Proper n
 spelled-proper w n s = record { labels = s .labels; name = s .name; form = s .form }
 
-owner-proper : (w n : List ℕ) → Owner w n → Proper n
+pub owner-proper : (w n : List ℕ) → Owner w n → Proper n
 owner-proper w n o = subst Proper (sym (o .form)) (canonical-form (o .wire) (spelled-proper w (o .wire) (o .spells)) .proper)
 
 owner-canonical : (w n : List ℕ) → Owner w n → canonical n ≡ n

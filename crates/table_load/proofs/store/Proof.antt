@@ -3,7 +3,8 @@ use native.Mathlib.Omega.{arith}
 use lib.ListN.{length, length-take}
 use borrow.Author.Needs.{needs}
 use Rattle.slots.specs.Form.{tableBytes}
-use Rattle.table_load.proofs.PlaceLaws.{size-fits, writable, written-stored}
+use Rattle.slots.proofs.EffectLaws.{field-size-most}
+use Rattle.table_load.proofs.PlaceLaws.{writable, written-stored}
 use Rattle.table_load.proofs.store.Statement.{statement}
 use Rattle.table_load.proofs.store.Tie as tie
 
@@ -28,7 +29,7 @@ slice-aggregate-write-in-2 : tie.Need-slice-aggregate-write-in-2
 slice-aggregate-write-in-2 c =
     let d = c .before .before .before in
     let rdata : length (c .before .before .before .before .before .before .before .before .before .before .before .args .t4 .rdata) ≡ 35 = search needs in
-    simp length-take (omega (arith, d .data-size .ensures, size-fits (d .before .rtype-of .result)))
+    simp length-take (omega (arith, d .data-size .ensures, field-size-most (d .before .rtype-of .result)))
 
 write-in-requires : tie.Need-write-in-requires
 write-in-requires c κs =
