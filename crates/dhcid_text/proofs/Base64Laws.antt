@@ -82,6 +82,18 @@ length-whole (a ∷ []) k e = absurd (omega arith)
 length-whole (a ∷ b ∷ []) k e = absurd (omega arith)
 length-whole (a ∷ b ∷ c ∷ o) k e = omega (arith, length-whole o (k - 1) (omega arith))
 
+-- and two bytes more
+length-and-two : (bs : List ℕ) (k : ℕ) → length bs ≡ 3 * k + 2 → length (base64 bs) ≡ 4 * k + 4
+unfolding base64
+length-and-two [] k e = absurd (omega arith)
+length-and-two (a ∷ []) k e = absurd (omega arith)
+length-and-two (a ∷ b ∷ []) k e = omega arith
+length-and-two (a ∷ b ∷ c ∷ bs) k e = omega (arith, length-and-two bs (k - 1) (omega arith))
+
+-- a DHCID is 48 characters
+pub length-base64 : (bs : List ℕ) → length bs ≡ 35 → length (base64 bs) ≡ 48
+length-base64 bs long = length-and-two bs 11 long
+
 -- ---- k groups and two bytes: digits, of which the last has two bits zero, and =
 
 pub record Shape (k : ℕ) (t : List ℕ) : Type 0 where

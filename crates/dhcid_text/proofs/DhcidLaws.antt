@@ -10,7 +10,7 @@ use Rattle.dhcid_text.specs.Dhcid.{digit64, base64}
 use Rattle.dhcid_text.specs.DhcidReading.{value64, zeroFilled, stateOf, Quantum, Begun64, Done64, Refused64, Text64}
 use Rattle.dhcid_text.specs.declared.DhcidWords.{DhcidWords}
 use Rattle.dhcid_text.proofs.HexLaws.{take-one}
-use Rattle.dhcid_text.proofs.Base64Laws.{value-digit, digit-value, same-digit, base64-on, length-whole, Shape, shape}
+use Rattle.dhcid_text.proofs.Base64Laws.{value-digit, digit-value, same-digit, base64-on, length-whole, length-base64, Shape, shape}
 use Rattle.base.proofs.Lists.{every-append, every-at}
 use Rattle.base.proofs.Tests.{by-ltb}
 
@@ -267,11 +267,6 @@ module _ (bs : List ℕ) (small : Every (λ b. b < 256) bs) (long : length bs �
   text-shape : Shape 11 (base64 bs)
   text-shape = shape bs 11 small (omega arith)
 
-  pub length-text : length (base64 bs) ≡ 48
-  length-text =
-      let h = text-shape in
-      ap length (h .form) ∙ length-append (h .front) (digit64 (h .bits % 16 * 4) ∷ 61 ∷ []) ∙ omega (arith, h .long)
-
   module _ (cs ds : List ℕ) (c : ℕ) (e : cs ++ c ∷ [] ++ ds ≡ base64 bs) where
     character : c ≡ getD (text-shape .front ++ digit64 (text-shape .bits % 16 * 4) ∷ 61 ∷ []) (length cs) 0
     character =
@@ -300,7 +295,7 @@ module _ (bs : List ℕ) (small : Every (λ b. b < 256) bs) (long : length bs �
         ∙ getD-append-add (text-shape .front) (digit64 (text-shape .bits % 16 * 4) ∷ 61 ∷ []) 1 0
 
     pub no-next : 48 ≤ length cs → ⊥
-    no-next n = omega (arith, ap length e, length-append (cs ++ c ∷ []) ds, length-append cs (c ∷ []), length-text)
+    no-next n = omega (arith, ap length e, length-append (cs ++ c ∷ []) ds, length-append cs (c ∷ []), length-base64 bs long)
 
     -- the third digit of the last group leaves two bits, which are zero
     pub no-spare-bits : (b x : ℕ) → x < 4 → length cs ≡ 46 → c ≡ digit64 (b % 16 * 4 + x) → x ≡ 0
@@ -332,7 +327,7 @@ module _ (cs : List ℕ) (b : ℕ) (s : DhcidWords) where
     too-many n (Text64.begun h) = absurd (omega (arith, h .more))
     too-many n (Text64.done h) =
         refuse
-        (λ ds bs small long e. no-next bs small long cs ds b e (omega (arith, ap length (h .chars), length-text (s .bytes) (h .small) (h .long))))
+        (λ ds bs small long e. no-next bs small long cs ds b e (omega (arith, ap length (h .chars), length-base64 (s .bytes) (h .long))))
     too-many n (Text64.refused h) = absurd (omega (arith, h .form))
 
     pub no-digit : (s .count ≡ 47 → ⊥) → s .count ≤ 47 → 63 < value64 b → Text64 cs s → Text64 (cs ++ b ∷ []) r

@@ -1,27 +1,25 @@
 -- The reader of a DHCID's words: hexadecimal digits, words, and what the last state answers. Assumes nothing.
 use Prim.Native.Nat.{ℕ, _+_, _*_, _/_, _%_, _≤_, _<_}
-use mathlib.Core.Bool.{true, false, _&&_, true≢false}
+use mathlib.Core.Bool.{true, false, true≢false}
 use mathlib.Core.Path.{_≡_, refl, sym, ap, subst, _∙_}
 use mathlib.Core.Logic.{_⊎_, inl, inr, ⊎-elim}
 use mathlib.Core.List.{List, [], _∷_, _++_, append-assoc, append-nil, nil≢cons, head-eq-of-cons-eq, tail-eq-of-cons-eq}
 use native.Mathlib.Omega.{arith}
-use lib.Dec.{leb, eqb}
 use lib.ListN.{replicate, length, set, length-append}
 use lib.Seq.{append-snoc}
-use borrow.Author.Tests.{eqb-true}
-use Rattle.base.specs.Dhcid.{identifierType, digestType, wellFormed}
+use Rattle.base.specs.Dhcid.{wellFormed}
 use Rattle.base.specs.Logic.{Every, Pairwise}
-use Rattle.base.proofs.Tests.{and-left}
+use Rattle.base.proofs.DhcidLaws.{dhcid-length}
+use Rattle.base.proofs.Lists.{every-append, every-middle, pairwise-on}
 use Rattle.text.specs.Digits.{digitValue}
 use Rattle.dhcid_text.specs.Dhcid.{base64, joined, HexByte, Generic, SpellsDhcid}
 use Rattle.text.specs.Reading.{Answers, none-read}
 use Rattle.dhcid_text.specs.DhcidReading.{value64, Fresh, Quantum, Refused64, Text64, Begun16, Refused16, Text16, marker, thirtyFive, After, noDhcid}
 use Rattle.dhcid_text.specs.declared.DhcidWords.{DhcidWords}
 use Rattle.dhcid_text.specs.declared.ReadDhcid.{ReadDhcid}
-use Rattle.dhcid_text.proofs.Base64Laws.{same-bytes}
-use Rattle.base.proofs.Lists.{every-append, every-middle, pairwise-on}
+use Rattle.dhcid_text.proofs.Base64Laws.{same-bytes, length-base64}
 use Rattle.dhcid_text.proofs.HexLaws.{joined-on, joined-word, hex-byte, length-pairs, digits-pairs, same-pairs}
-use Rattle.dhcid_text.proofs.DhcidLaws.{stored, all-stored, length-begun, length-text, next-digit}
+use Rattle.dhcid_text.proofs.DhcidLaws.{stored, all-stored, length-begun, next-digit}
 
 -- ---- two hexadecimal digits
 
@@ -130,13 +128,6 @@ fresh-digits s h =
 
 -- ---- what is spelled by words
 
-pub length-dhcid : {ws : List (List ℕ)} {bs : List ℕ} → SpellsDhcid ws bs → length bs ≡ 35
-unfolding wellFormed
-length-dhcid {ws} {bs} h =
-    eqb-true (length bs) 35
-    (and-left (eqb (length bs) 35) (leb (identifierType bs) 2)
-    (and-left (eqb (length bs) 35 && leb (identifierType bs) 2) (eqb (digestType bs) 1) (h .test)))
-
 -- base64 begins with no backslash
 no-base64 : (vs : List (List ℕ)) (bs : List ℕ) → Every (λ b. b < 256) bs → length bs ≡ 35 → joined (marker ∷ vs) ≡ base64 bs → ⊥
 unfolding joined value64
@@ -147,7 +138,7 @@ module _ (ws vs : List (List ℕ)) (bs : List ℕ) (sp : SpellsDhcid ws bs) wher
   in-base64 w e other = ⊎-elim (λ h. h) (λ g. absurd (other (head-eq-of-cons-eq (sym e ∙ g .words)))) (sp .form)
 
   in-generic : ws ≡ marker ∷ vs → Generic ws bs
-  in-generic e = ⊎-elim (λ h. absurd (no-base64 vs bs (sp .bytes) (length-dhcid sp) (ap joined (sym e) ∙ h))) (λ g. g) (sp .form)
+  in-generic e = ⊎-elim (λ h. absurd (no-base64 vs bs (sp .bytes) (dhcid-length bs (sp .test)) (ap joined (sym e) ∙ h))) (λ g. g) (sp .form)
 
 -- the generic form's digits
 digits-of : (ws digits : List (List ℕ)) (bs : List ℕ) (g : Generic ws bs) → ws ≡ marker ∷ thirtyFive ∷ digits → g .digits ≡ digits
@@ -158,7 +149,7 @@ digits-of ws digits bs g e = tail-eq-of-cons-eq (tail-eq-of-cons-eq (sym (g .wor
 stopped64 : (ws vs : List (List ℕ)) (s : DhcidWords) (w : List ℕ) (us : List (List ℕ)) (bs : List ℕ) → Refused64 (joined ws) s → ws ≡ w ∷ us → (w ≡ marker → ⊥)
     → SpellsDhcid (ws ++ vs) bs → ⊥
 stopped64 ws vs s w us bs h e other sp =
-    h .none (joined vs) bs (sp .bytes) (length-dhcid sp)
+    h .none (joined vs) bs (sp .bytes) (dhcid-length bs (sp .test))
     (sym (joined-on ws vs) ∙ in-base64 (ws ++ vs) (us ++ vs) bs sp w (ap (λ (l : List (List ℕ)). l ++ vs) e) other)
 
 stopped16 : (ws vs : List (List ℕ)) (s : DhcidWords) (digits : List (List ℕ)) (bs : List ℕ) → Refused16 (joined digits) s → ws ≡ marker ∷ thirtyFive ∷ digits
@@ -166,7 +157,7 @@ stopped16 : (ws vs : List (List ℕ)) (s : DhcidWords) (digits : List (List ℕ)
 stopped16 ws vs s digits bs h e sp =
     let e′ : ws ++ vs ≡ marker ∷ thirtyFive ∷ (digits ++ vs) = ap (λ (l : List (List ℕ)). l ++ vs) e in
     let g = in-generic (ws ++ vs) (thirtyFive ∷ (digits ++ vs)) bs sp e′ in
-    h .none (joined vs) (g .pairs) bs (g .bytes) (length-dhcid sp)
+    h .none (joined vs) (g .pairs) bs (g .bytes) (dhcid-length bs (sp .test))
     (sym (joined-on digits vs) ∙ ap joined (sym (digits-of (ws ++ vs) (digits ++ vs) bs g e′)) ∙ g .all)
 
 -- ---- a state that a form's characters lead to
@@ -311,7 +302,7 @@ module _ (ws : List (List ℕ)) (s : DhcidWords) where
   module _ (bs : List ℕ) (sp : SpellsDhcid ws bs) where
     only64 : s .count ≡ 48 → s .form ≡ 1 → joined ws ≡ base64 bs → Text64 (joined ws) s → bs ≡ s .bytes
     only64 n f e (Text64.begun h) = absurd (omega (arith, h .more))
-    only64 n f e (Text64.done h) = same-bytes bs (s .bytes) 11 (sp .bytes) (h .small) (length-dhcid sp) (h .long) (sym e ∙ h .chars)
+    only64 n f e (Text64.done h) = same-bytes bs (s .bytes) 11 (sp .bytes) (h .small) (dhcid-length bs (sp .test)) (h .long) (sym e ∙ h .chars)
     only64 n f e (Text64.refused h) = absurd (omega (arith, h .form))
 
     only16 : (digits : List (List ℕ)) → s .count ≡ 70 → ws ≡ marker ∷ thirtyFive ∷ digits → Begun16 (joined digits) s → bs ≡ s .bytes
@@ -331,14 +322,14 @@ module _ (ws : List (List ℕ)) (s : DhcidWords) where
     test-fails c test h = true≢false (sym (sp .test) ∙ ap wellFormed (only c h) ∙ test)
 
     short64 : (Complete s → ⊥) → joined ws ≡ base64 bs → Text64 (joined ws) s → s .form ≡ 1 → ⊥
-    short64 c e (Text64.begun h) f = omega (arith, h .more, length-begun (joined ws) s h, ap length e, length-text bs (sp .bytes) (length-dhcid sp))
+    short64 c e (Text64.begun h) f = omega (arith, h .more, length-begun (joined ws) s h, ap length e, length-base64 bs (dhcid-length bs (sp .test)))
     short64 c e (Text64.done h) f = c (inl (h .form, h .count))
     short64 c e (Text64.refused h) f = omega (arith, h .form)
 
     pub incomplete : (Complete s → ⊥) → After ws s → ⊥
     unfolding joined
     incomplete c (After.nothing g e) =
-        ⊎-elim (λ b. omega (arith, ap length (sym (ap joined e) ∙ b), length-text bs (sp .bytes) (length-dhcid sp))) (λ h. nil≢cons (sym e ∙ h .words)) (sp .form)
+        ⊎-elim (λ b. omega (arith, ap length (sym (ap joined e) ∙ b), length-base64 bs (dhcid-length bs (sp .test)))) (λ h. nil≢cons (sym e ∙ h .words)) (sp .form)
     incomplete c (After.inBase64 g v vs e other t) = short64 c (in-base64 ws vs bs sp v e other) t g
     incomplete c (After.marked g e) = nil≢cons (tail-eq-of-cons-eq (sym e ∙ in-generic ws [] bs sp e .words))
     incomplete c (After.generic g digits e even h) =
@@ -349,7 +340,7 @@ module _ (ws : List (List ℕ)) (s : DhcidWords) where
           omega (
             arith,
             h .count,
-            length-dhcid sp,
+            dhcid-length bs (sp .test),
             length-pairs (q .pairs) bs (q .bytes),
             ap length (q .all),
             ap length (ap joined (digits-of ws digits bs q e)),
@@ -365,16 +356,16 @@ apart : (ws : List (List ℕ)) (bs cs : List ℕ) → Every (λ b. b < 256) bs �
 apart ws bs cs small long e g = no-base64 (thirtyFive ∷ g .digits) bs small long (ap joined (sym (g .words)) ∙ e)
 
 pub forms-are-apart : (ws : List (List ℕ)) (bs cs : List ℕ) → SpellsDhcid ws bs → joined ws ≡ base64 bs → Generic ws cs → ⊥
-forms-are-apart ws bs cs s e g = apart ws bs cs (s .bytes) (length-dhcid s) e g
+forms-are-apart ws bs cs s e g = apart ws bs cs (s .bytes) (dhcid-length bs (s .test)) e g
 
 pub dhcid-one : (ws : List (List ℕ)) (bs cs : List ℕ) → SpellsDhcid ws bs → SpellsDhcid ws cs → bs ≡ cs
 dhcid-one ws bs cs s t =
     ⊎-elim
     (λ e.
-    ⊎-elim (λ e′. same-bytes bs cs 11 (s .bytes) (t .bytes) (length-dhcid s) (length-dhcid t) (sym e ∙ e′))
-    (λ g. absurd (apart ws bs cs (s .bytes) (length-dhcid s) e g)) (t .form))
+    ⊎-elim (λ e′. same-bytes bs cs 11 (s .bytes) (t .bytes) (dhcid-length bs (s .test)) (dhcid-length cs (t .test)) (sym e ∙ e′))
+    (λ g. absurd (apart ws bs cs (s .bytes) (dhcid-length bs (s .test)) e g)) (t .form))
     (λ g.
-    ⊎-elim (λ e′. absurd (apart ws cs bs (t .bytes) (length-dhcid t) e′ g))
+    ⊎-elim (λ e′. absurd (apart ws cs bs (t .bytes) (dhcid-length cs (t .test)) e′ g))
     (λ g′.
     same-pairs (g .pairs) (g′ .pairs) bs cs (g .bytes) (g′ .bytes)
     (sym (g .all) ∙ ap joined (digits-of ws (g′ .digits) bs g (g′ .words)) ∙ g′ .all)) (t .form))

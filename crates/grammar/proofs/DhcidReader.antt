@@ -11,16 +11,16 @@ use native.Mathlib.Omega.{arith}
 use lib.Dec.{eqb, ltb}
 use lib.ListN.{length, take, length-append}
 use borrow.Author.Tests.{eqb-true, eq-eqb, lt-ltb, ltb-true}
-use Rattle.base.proofs.Tests.{eqBytes-true, eq-eqBytes}
 use Rattle.base.specs.Bytes.{eqBytes}
 use Rattle.base.specs.Dhcid.{wellFormed}
 use Rattle.base.specs.Logic.{Every, Pairwise}
+use Rattle.base.proofs.DhcidLaws.{dhcid-length}
+use Rattle.base.proofs.Tests.{eqBytes-true, eq-eqBytes}
 use Rattle.text.specs.Digits.{digitValue}
 use Rattle.dhcid_text.specs.Dhcid.{digit64, base64, joined, HexByte, Generic, SpellsDhcid}
 use Rattle.dhcid_text.specs.DhcidReading.{value64, marker, thirtyFive}
 use Rattle.dhcid_text.proofs.Base64Laws.{value-digit}
 use Rattle.dhcid_text.proofs.HexLaws.{hex-byte, digits-pairs, same-pairs}
-use Rattle.dhcid_text.proofs.DhcidWordLaws.{length-dhcid}
 use Rattle.dhcid_text.proofs.Theorems.{forms-apart}
 use Rattle.grammar.proofs.Deciding.{Reads, provided, provided-by, provided-is, all, all-true, every-all}
 
@@ -211,7 +211,7 @@ dhcid-finds : (ws : List (List ℕ)) (bs : List ℕ) → SpellsDhcid ws bs → d
 unfolding dhcidOf orElse
 dhcid-finds ws bs s =
     ⊎-elim
-    (λ e. ap (λ (r : Option (List ℕ)). orElse r (genericOf ws)) (base64-finds (joined ws) bs e tests (length-dhcid s)))
+    (λ e. ap (λ (r : Option (List ℕ)). orElse r (genericOf ws)) (base64-finds (joined ws) bs e tests (dhcid-length bs (s .test))))
     (λ g. go (base64Of (joined ws)) refl g)
     (s .form)
   where

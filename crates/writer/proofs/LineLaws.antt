@@ -11,11 +11,12 @@ use Rattle.name.specs.Promise.{textOf}
 use Rattle.name.proofs.DottedLaws.{length-textOf}
 use Rattle.address.specs.Address.{writtenA, writtenAAAA}
 use Rattle.dhcid_text.specs.Dhcid.{base64}
+use Rattle.dhcid_text.proofs.Base64Laws.{length-base64}
 use Rattle.grammar.specs.Listing.{RecordType, mnemonic, ResourceRecord}
 use Rattle.entry.specs.Parts.{number}
 use Rattle.writer.specs.Line.{rdataText, line, lines}
 use Rattle.writer.specs.Parts.{typePart, rdataPart, restPart}
-use Rattle.writer.proofs.PartLaws.{length-a, length-aaaa, length-dhcid}
+use Rattle.writer.proofs.PartLaws.{length-a, length-aaaa}
 
 -- ---- what follows the owner
 
@@ -65,7 +66,7 @@ pub line-most : (n : List ℕ) (k : RecordType) (x : List ℕ) → length n ≤ 
 unfolding line rdataText mnemonic ascii
 line-most n RecordType.A x short size = simp length-append (omega (arith, length-textOf n, length-a x size))
 line-most n RecordType.AAAA x short size = simp length-append (omega (arith, length-textOf n, length-aaaa x size))
-line-most n RecordType.DHCID x short size = simp length-append (omega (arith, length-textOf n, length-dhcid x size))
+line-most n RecordType.DHCID x short size = simp length-append (omega (arith, length-textOf n, length-base64 x size))
 
 -- ---- lines one after the other
 

@@ -14,6 +14,7 @@ use Rattle.name.specs.Promise.{textOf}
 use Rattle.name.proofs.DottedLaws.{length-textOf}
 use Rattle.address.specs.Address.{writtenA, writtenAAAA}
 use Rattle.dhcid_text.specs.Dhcid.{base64}
+use Rattle.dhcid_text.proofs.Base64Laws.{length-base64}
 use Rattle.text.proofs.DigitLaws.{length-decimal}
 use Rattle.text.proofs.PartLaws.{total, total-separated}
 use Rattle.address.proofs.WrittenLaws.{octetParts, length-octets, length-written}
@@ -63,16 +64,6 @@ pub length-aaaa : (bs : List ℕ) → length bs ≡ 16 → length (writtenAAAA b
 unfolding writtenAAAA
 length-aaaa bs sixteen = length-written bs sixteen
 
-length-groups : (bs : List ℕ) (k : ℕ) → length bs ≡ 3 * k + 2 → length (base64 bs) ≡ 4 * k + 4
-unfolding base64
-length-groups [] k e = absurd (omega arith)
-length-groups (a ∷ []) k e = absurd (omega arith)
-length-groups (a ∷ b ∷ []) k e = omega arith
-length-groups (a ∷ b ∷ c ∷ bs) k e = omega (arith, length-groups bs (k - 1) (omega arith))
-
-pub length-dhcid : (bs : List ℕ) → length bs ≡ 35 → length (base64 bs) ≡ 48
-length-dhcid bs long = length-groups bs 11 long
-
 pub length-type : (n : ℕ) → length (typePart n) ≤ 7
 unfolding typePart ascii
 length-type n = go (eqb n 1) (eqb n 28)
@@ -89,7 +80,7 @@ length-rdata n bs long = go (eqb n 1) (eqb n 28)
     go : (a b : Bool) → length (cond a (writtenA (take 4 bs)) (cond b (writtenAAAA (take 16 bs)) (base64 bs))) ≤ 48
     go Bool.true b = omega (arith, length-a (take 4 bs) (length-take-le 4 bs (omega arith)))
     go Bool.false Bool.true = omega (arith, length-aaaa (take 16 bs) (length-take-le 16 bs (omega arith)))
-    go Bool.false Bool.false = omega (arith, length-dhcid bs long)
+    go Bool.false Bool.false = omega (arith, length-base64 bs long)
 
 -- ---- one part behind the other
 

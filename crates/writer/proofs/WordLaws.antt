@@ -24,9 +24,10 @@ use Rattle.dhcid_text.specs.Dhcid.{digit64, base64}
 use Rattle.text.proofs.DigitLaws.{ten-digits, decimal-number}
 use Rattle.text.proofs.PartLaws.{total, total-separated}
 use Rattle.address.proofs.WrittenLaws.{octetParts, length-octets}
+use Rattle.dhcid_text.proofs.Base64Laws.{length-base64}
 use Rattle.grammar.specs.Listing.{isVisible, kindOf, isWordByte, RecordType, mnemonic}
 use Rattle.writer.specs.Line.{RdataOf, rdataText}
-use Rattle.writer.proofs.PartLaws.{length-aaaa, length-dhcid}
+use Rattle.writer.proofs.PartLaws.{length-aaaa}
 
 abbrev WordBytes : List ℕ → Type 0
 WordBytes w = Every (λ b. isWordByte b ≡ true) w
@@ -169,7 +170,7 @@ base64-each (a ∷ b ∷ c ∷ bs) (Every.more ha (Every.more hb (Every.more hc 
     (Every.more (digit64-word (b % 16 * 4 + c / 64) (omega arith)) (Every.more (digit64-word (c % 64) (omega arith)) (base64-each bs h))))
 
 dhcid-word : (bs : List ℕ) → Every (λ b. b < 256) bs → length bs ≡ 35 → Word (base64 bs)
-dhcid-word bs bytes long = record { some = omega (arith, length-dhcid bs long); each = base64-each bs bytes }
+dhcid-word bs bytes long = record { some = omega (arith, length-base64 bs long); each = base64-each bs bytes }
 
 pub rdata-word : (k : RecordType) (bs : List ℕ) → Every (λ b. b < 256) bs → RdataOf k bs → Word (rdataText k bs)
 unfolding rdataText RdataOf

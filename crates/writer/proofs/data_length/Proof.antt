@@ -3,7 +3,8 @@ use denote.Ref.{now}
 use native.Mathlib.Omega.{arith}
 use lib.ListN.{length, take, length-take}
 use lib.Seq.{length-take-le}
-use Rattle.writer.proofs.PartLaws.{rdata-a, rdata-aaaa, rdata-dhcid, length-aaaa, length-dhcid}
+use Rattle.dhcid_text.proofs.Base64Laws.{length-base64}
+use Rattle.writer.proofs.PartLaws.{rdata-a, rdata-aaaa, rdata-dhcid, length-aaaa}
 use Rattle.writer.proofs.data_length.Statement.{statement}
 use Rattle.writer.proofs.data_length.Tie as tie
 
@@ -31,7 +32,7 @@ returns-3 : tie.Need-returns-3
 returns-3 c =
     let s = c .before .before in
     let bs = now (s .args .rdata) in
-    sym (ap length (rdata-dhcid (s .args .rtype) bs (c .match .rest .0 .1) (c .match .rest .1)) ∙ length-dhcid bs (s .pre))
+    sym (ap length (rdata-dhcid (s .args .rtype) bs (c .match .rest .0 .1) (c .match .rest .1)) ∙ length-base64 bs (s .pre))
 
 pub data-length-spec : {M : Type 1} → statement M
 data-length-spec = tie.close (tie.spec slice-aggregate-a-length a-length-requires returns returns-2 returns-3)

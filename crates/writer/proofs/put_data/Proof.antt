@@ -4,7 +4,8 @@ use native.Mathlib.Omega.{arith}
 use borrow.Author.Needs.{needs}
 use lib.ListN.{length, take, length-take}
 use lib.Seq.{length-take-le}
-use Rattle.writer.proofs.PartLaws.{rdata-a, rdata-aaaa, rdata-dhcid, length-aaaa, length-dhcid}
+use Rattle.dhcid_text.proofs.Base64Laws.{length-base64}
+use Rattle.writer.proofs.PartLaws.{rdata-a, rdata-aaaa, rdata-dhcid, length-aaaa}
 use Rattle.writer.proofs.put_data.Statement.{statement}
 use Rattle.writer.proofs.put_data.Tie as tie
 
@@ -44,7 +45,7 @@ put-base64-requires c κs =
     let s = m .before .before .before in
     let bs = now (s .args .rdata) in (
       s .pre .0,
-      omega (arith, ap length (rdata-dhcid (s .args .rtype) bs (m .match .rest .0 .1) (m .match .rest .1)), length-dhcid bs (s .pre .0)),
+      omega (arith, ap length (rdata-dhcid (s .args .rtype) bs (m .match .rest .0 .1) (m .match .rest .1)), length-base64 bs (s .pre .0)),
     )
 
 add-result-3 : tie.Need-add-result-3
@@ -85,7 +86,7 @@ returns-3 c =
     let s = m .before .before .before in
     let bs = now (s .args .rdata) in
     let is = rdata-dhcid (s .args .rtype) bs (m .match .rest .0 .1) (m .match .rest .1) in (
-      omega (arith, ap length is, length-dhcid bs (s .pre .0)),
+      omega (arith, ap length is, length-base64 bs (s .pre .0)),
       rw is (w .put-base64 .ensures),
     )
 
