@@ -17,7 +17,7 @@ use Rattle.slots.specs.Promise.{closedUp, holding, isAddress}
 use Rattle.slots.specs.declared.Family.{Family}
 use Rattle.slots.specs.declared.Holding.{Holding}
 use Rattle.slots.specs.declared.Holding.the-variants.{ByHand, ByThis, ByAnother}
-use Rattle.table.specs.Steps.{Outcome, find, changed, adding, acceptedWith, refusedWith, add, removing, remove, clear}
+use Rattle.table.specs.Steps.{Outcome, find, adding, acceptedWith, refusedWith, add, removing, remove, clear}
 use Rattle.table.specs.Promise.{AtEntry, inSlot, LeavesSlot, addedAt, removedAt, Results}
 use Rattle.table.proofs.StepLaws.{HeldAt, FreeAt, FullUp}
 
