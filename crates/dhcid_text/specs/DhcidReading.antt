@@ -33,7 +33,7 @@ value64 b =
 unfoldable pub group : ℕ → ℕ → ℕ → ℕ → List ℕ
 group a b c fourth = digit64 (a / 4) ∷ digit64 (a % 4 * 16 + b / 16) ∷ digit64 (b % 16 * 4 + c / 64) ∷ fourth ∷ []
 
--- the 35 bytes of a state: those that were read, and zeros
+-- the 35 bytes that hold a record's data: the data, and zeros after them; of a state, those that were read so far
 unfoldable pub zeroFilled : List ℕ → List ℕ
 zeroFilled bs = bs ++ replicate (35 - length bs) 0
 

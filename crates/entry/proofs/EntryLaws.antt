@@ -22,8 +22,9 @@ use Rattle.grammar.proofs.Content.{Content, nothing, one, fault, headOf, rdataO
 use Rattle.grammar.proofs.Reader.{right, wrong, after, alone, followed, byEnding, read}
 use Rattle.grammar.proofs.ReaderLaws.{read-step}
 use Rattle.words.specs.NextIs.{LineAt}
-use Rattle.entry.specs.Parts.{number, rdataFor, ifNone}
-use Rattle.entry.specs.EntryIs.{held, notAtFault, nothingBefore, faultBefore, EntryIs}
+use Rattle.entry.specs.Parts.{rdataFor, ifNone}
+use Rattle.entry.specs.Held.{number, held}
+use Rattle.entry.specs.EntryIs.{notAtFault, nothingBefore, faultBefore, EntryIs}
 use Rattle.entry.specs.declared.Content.the-variants
 use Rattle.entry.specs.declared.Entry.{Entry}
 

@@ -14,8 +14,9 @@ use Rattle.grammar.proofs.Scan.{plain, atEnd, atFault, Laid, scan}
 use Rattle.grammar.proofs.OwnerReader.{ownerOf}
 use Rattle.grammar.proofs.Content.{one, withRest, headOf, byRdata, contentOf}
 use Rattle.words.specs.NextIs.{depthOf, WordAt, LineAt}
-use Rattle.entry.specs.Parts.{number, typeNumber, wordsAt, HeadAt, rdataFor, Held, ifNone, DataAt}
-use Rattle.entry.specs.EntryIs.{held, faultBefore, faultyFrom, EntryIs}
+use Rattle.entry.specs.Parts.{typeNumber, wordsAt, HeadAt, rdataFor, Held, ifNone, DataAt}
+use Rattle.entry.specs.Held.{number, held}
+use Rattle.entry.specs.EntryIs.{faultBefore, faultyFrom, EntryIs}
 use Rattle.entry.specs.declared.Record.{Record}
 use Rattle.entry.specs.declared.Content.the-variants
 use Rattle.entry.specs.declared.Entry.{Entry}

@@ -1,29 +1,19 @@
--- What reading one entry promises: which bytes a record has, and what the text from the entry on comes to.
+-- What reading one entry promises: what the text from the entry on comes to.
 use Prim.Native.Nat.{ℕ, _-_, _≤_, _<_}
 use mathlib.Core.Bool.{Bool, true, false, cond}
 use mathlib.Core.Path.{_≡_}
 use mathlib.Core.List.{List, []}
 use lib.ListN.{length, drop}
 use Rattle.base.specs.Refusal.{entryShape}
-use Rattle.name.specs.Name.{padded}
-use Rattle.dhcid_text.specs.DhcidReading.{zeroFilled}
 use Rattle.grammar.specs.Listing.{isWordByte, begins, ResourceRecord}
 use Rattle.grammar.proofs.Scan.{plain, Ending, atEnd, atLine, atFault, scan}
 use Rattle.grammar.proofs.Reader.{wrong, after, shifted, read}
 use Rattle.words.specs.NextIs.{depthOf}
-use Rattle.entry.specs.Parts.{number}
+use Rattle.entry.specs.Held.{held, noRecord}
 use Rattle.entry.specs.declared.Record.{Record}
 use Rattle.entry.specs.declared.Content.{Content}
 use Rattle.entry.specs.declared.Content.the-variants
 use Rattle.entry.specs.declared.Entry.{Entry}
-
--- the bytes of a record: the owner in canonical wire form in 255 bytes and the data in 35, each with zeros after it, the owner's length, and the type's number
-unfoldable pub held : ResourceRecord → Record
-held r = record { owner = padded (r .owner); «owner_len» = length (r .owner); rtype = number (r .rtype); rdata = zeroFilled (r .rdata) }
-
--- all zeros
-unfoldable pub noRecord : Record
-noRecord = record { owner = padded []; «owner_len» = 0; rtype = 0; rdata = zeroFilled [] }
 
 abbrev pub notAtFault : Ending → Bool
 notAtFault atEnd = true

@@ -14,14 +14,9 @@ use Rattle.grammar.proofs.AddressReader.{aOf, aaaaOf}
 use Rattle.grammar.proofs.DhcidReader.{dhcidOf}
 use Rattle.grammar.proofs.Content.{Headed, withRest, onlyWord}
 use Rattle.words.specs.NextIs.{depthOf}
+use Rattle.entry.specs.Held.{number}
 use Rattle.entry.specs.declared.head.Head.{Head}
 use Rattle.entry.specs.declared.«data».Data.{Data}
-
--- the record types' numbers: RFC 1035 (A), RFC 3596 (AAAA), RFC 4701 (DHCID)
-abbrev pub number : RecordType → ℕ
-number RecordType.A = 1
-number RecordType.AAAA = 28
-number RecordType.DHCID = 49
 
 -- 0 where there is no type
 abbrev pub typeNumber : Option RecordType → ℕ

@@ -16,6 +16,7 @@ ghost use Prim.Native.Nat.{_≤_};
 ghost use lib.ListN.{length, drop};
 ghost use Rattle.grammar.proofs.Scan.{plain, scan};
 ghost use Rattle.words.specs.NextIs.{depthOf, WordAt};
+ghost use Rattle.entry.specs.Held.{noRecord};
 ghost use Rattle.entry.specs.EntryIs as spec;
 
 // The record types, by their numbers (RFC 1035, 3596 and 4701); 0 is none.
@@ -54,7 +55,7 @@ pub struct Entry {
 
 // The bytes where there is no record: all zeros.
 pub fn no_record() -> Record
-    ensures { λ r. ⌜ r ≡ spec.noRecord ⌝ }
+    ensures { λ r. ⌜ r ≡ noRecord ⌝ }
 {
     Record {
         owner: [0u8; 255],

@@ -12,7 +12,7 @@ use Rattle.grammar.specs.Listing.{ResourceRecord, Records}
 use Rattle.grammar.specs.Faults.{ended, Refused}
 use Rattle.grammar.proofs.Reader.{Verdict, right, wrong, after, shifted, read}
 use Rattle.grammar.proofs.ReaderLaws.{Comes, spelled, faulted, comes, comes-read}
-use Rattle.entry.specs.EntryIs.{held}
+use Rattle.entry.specs.Held.{held}
 use Rattle.entry.proofs.EntryLaws.{empty}
 use Rattle.listing.specs.Reading.{limit, FoundIs, StepIs}
 use Rattle.listing.specs.declared.Found.{Found}

@@ -10,7 +10,7 @@ use denote.Enum.Declared.{tagOf}
 use lib.ListN.{length, drop, drop-of-length-le}
 use Rattle.grammar.specs.Listing.{ResourceRecord}
 use Rattle.grammar.proofs.Reader.{read}
-use Rattle.entry.specs.EntryIs.{held}
+use Rattle.entry.specs.Held.{held}
 use Rattle.entry.proofs.EntryLaws.{empty}
 use Rattle.listing.specs.Reading.{limit, FoundIs, StepIs}
 use Rattle.listing.specs.Giving.{end, Gives, whole, Next, Answers}

@@ -7,7 +7,8 @@ use native.Mathlib.Omega.{arith}
 use lib.ListN.{length, drop, drop-of-length-le}
 use Rattle.base.specs.Refusal.{listingLong}
 use Rattle.grammar.proofs.Reader.{Verdict, wrong, after, shifted, read}
-use Rattle.entry.specs.EntryIs.{noRecord, EntryIs}
+use Rattle.entry.specs.EntryIs.{EntryIs}
+use Rattle.entry.specs.Held.{noRecord}
 use Rattle.entry.specs.declared.Record.{Record}
 use Rattle.entry.specs.declared.Content.the-variants
 use Rattle.entry.specs.declared.Entry.{Entry}

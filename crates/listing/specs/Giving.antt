@@ -7,7 +7,7 @@ use lib.ListN.{length, drop}
 use Rattle.base.specs.Refusal.{listingLong}
 use Rattle.grammar.specs.Listing.{ResourceRecord, Spells}
 use Rattle.grammar.specs.Faults.{Refused}
-use Rattle.entry.specs.EntryIs.{held, noRecord}
+use Rattle.entry.specs.Held.{held, noRecord}
 use Rattle.entry.specs.declared.Record.{Record}
 use Rattle.listing.specs.Reading.{limit}
 use Rattle.listing.specs.declared.Found.{Found}

@@ -10,7 +10,7 @@ use Rattle.base.specs.Refusal.{listingLong}
 use Rattle.grammar.specs.Listing.{ResourceRecord}
 use Rattle.grammar.specs.Outcome.{Outcome, accepted, refused, Checked}
 use Rattle.grammar.proofs.Reader.{right, wrong, after, shifted, read}
-use Rattle.entry.specs.EntryIs.{held, noRecord}
+use Rattle.entry.specs.Held.{held, noRecord}
 use Rattle.entry.specs.declared.Record.{Record}
 use Rattle.listing.specs.declared.Found.{Found}
 use Rattle.listing.specs.declared.Found.the-variants

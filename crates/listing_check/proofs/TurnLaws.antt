@@ -10,7 +10,7 @@ use Rattle.base.specs.declared.Answer.the-variants.{Accepted}
 use Rattle.base.specs.Logic.{Every, more}
 use Rattle.grammar.specs.Listing.{ResourceRecord, Spells}
 use Rattle.grammar.proofs.Reader.{read, check}
-use Rattle.entry.specs.EntryIs.{held}
+use Rattle.entry.specs.Held.{held}
 use Rattle.entry.proofs.EntryLaws.{empty}
 use Rattle.writer.specs.Line.{WellFormed, Holds}
 use Rattle.writer.proofs.Theorems.{spelled-well-formed}

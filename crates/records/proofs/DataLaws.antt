@@ -10,7 +10,7 @@ use borrow.Author.Tests.{eqb-true, eq-eqb}
 use Rattle.base.specs.Bytes.{eqBytes}
 use Rattle.base.proofs.Tests.{and-left, and-right, eqBytes-true, eq-eqBytes}
 use Rattle.grammar.specs.Listing.{RecordType, ResourceRecord}
-use Rattle.entry.specs.Parts.{number}
+use Rattle.entry.specs.Held.{number}
 use Rattle.records.specs.Gathered.{isOf, dataOf}
 
 -- ---- the type by its number

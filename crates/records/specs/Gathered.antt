@@ -8,7 +8,7 @@ use lib.ListN.{length}
 use Rattle.base.specs.Bytes.{eqBytes}
 use Rattle.base.specs.Logic.{firstOf}
 use Rattle.grammar.specs.Listing.{RecordType, ResourceRecord}
-use Rattle.entry.specs.Parts.{number}
+use Rattle.entry.specs.Held.{number}
 use Rattle.slots.specs.Form.{TableEntry}
 
 -- ---- the records of one name

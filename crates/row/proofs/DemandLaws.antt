@@ -13,7 +13,7 @@ use Rattle.grammar.specs.Outcome.{Outcome, accepted, refused, Checked, Answered
 use Rattle.grammar.proofs.Reader.{answer}
 use Rattle.grammar.proofs.ReaderLaws.{answers, answered, accepted-spells, same-list}
 use Rattle.grammar.proofs.Theorems.{one-answer}
-use Rattle.entry.specs.EntryIs.{held}
+use Rattle.entry.specs.Held.{held}
 use Rattle.entry.specs.declared.Record.{Record}
 use Rattle.listing.specs.Reading.{limit, counted}
 use Rattle.row.specs.Demand3.{Demand3}

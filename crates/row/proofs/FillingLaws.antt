@@ -12,7 +12,7 @@ use Rattle.grammar.specs.Listing.{ResourceRecord}
 use Rattle.grammar.specs.Outcome.{Outcome, accepted, refused, Checked, Answered}
 use Rattle.grammar.proofs.Reader.{answer}
 use Rattle.grammar.proofs.ReaderLaws.{answers}
-use Rattle.entry.specs.EntryIs.{held}
+use Rattle.entry.specs.Held.{held}
 use Rattle.entry.specs.declared.Record.{Record}
 use Rattle.listing.specs.Reading.{limit, counted}
 use Rattle.listing.specs.Giving.{end, Gives, whole}

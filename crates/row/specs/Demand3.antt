@@ -8,7 +8,7 @@ use lib.ListN.{length, take}
 use Rattle.base.specs.Answer.{value, IsAccepted}
 use Rattle.base.specs.declared.Answer.{Answer}
 use Rattle.grammar.specs.Listing.{ResourceRecord, Spells}
-use Rattle.entry.specs.EntryIs.{held}
+use Rattle.entry.specs.Held.{held}
 use Rattle.entry.specs.declared.Record.{Record}
 
 -- the listing t was read into a row that held the places lent and now holds the places handed; a was answered

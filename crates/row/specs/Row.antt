@@ -9,7 +9,7 @@ use Rattle.base.specs.declared.Answer.{Answer}
 use Rattle.base.specs.declared.Answer.the-variants.{Accepted, Refused}
 use Rattle.grammar.specs.Listing.{ResourceRecord}
 use Rattle.grammar.specs.Outcome.{Outcome, accepted, refused, Answered}
-use Rattle.entry.specs.EntryIs.{held}
+use Rattle.entry.specs.Held.{held}
 use Rattle.entry.specs.declared.Record.{Record}
 use Rattle.listing.specs.Reading.{limit, counted}
 use Rattle.listing.specs.Giving.{end, Gives}

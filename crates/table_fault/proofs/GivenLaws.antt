@@ -7,7 +7,8 @@ use native.Mathlib.Omega.{arith}
 use lib.ListN.{length, drop, drop-of-length-le}
 use Rattle.grammar.specs.Listing.{ResourceRecord}
 use Rattle.grammar.proofs.Reader.{Verdict, right, wrong, after, shifted, read}
-use Rattle.entry.specs.EntryIs.{held, EntryIs}
+use Rattle.entry.specs.EntryIs.{EntryIs}
+use Rattle.entry.specs.Held.{held}
 use Rattle.entry.specs.declared.Content.the-variants
 use Rattle.entry.specs.declared.Entry.{Entry}
 use Rattle.entry.proofs.EntryLaws.{empty}

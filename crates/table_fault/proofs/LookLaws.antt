@@ -6,7 +6,8 @@ use mathlib.Core.List.{List}
 use lib.ListN.{length, drop}
 use Rattle.base.specs.Logic.{Every}
 use Rattle.grammar.specs.Listing.{ResourceRecord}
-use Rattle.entry.specs.EntryIs.{held, EntryIs}
+use Rattle.entry.specs.EntryIs.{EntryIs}
+use Rattle.entry.specs.Held.{held}
 use Rattle.entry.specs.declared.Content.the-variants
 use Rattle.entry.specs.declared.Entry.{Entry}
 use Rattle.entry.specs.declared.Record.{Record}

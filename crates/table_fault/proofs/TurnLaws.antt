@@ -11,7 +11,7 @@ use lib.ListN.{length, drop, getD, set, length-set, length-append, List·getD-ap
 use lib.Seq.{getD-set-same, getD-set-other, getD-at, append-snoc}
 use borrow.Author.Tests.{eqb-true, eqb-false}
 use Rattle.grammar.specs.Listing.{RecordType, ResourceRecord}
-use Rattle.entry.specs.Parts.{number}
+use Rattle.entry.specs.Held.{number}
 use Rattle.listing.specs.Giving.{Last, Gives}
 use Rattle.records.specs.Gathered.{dataOf, owners}
 use Rattle.records.proofs.OwnerLaws.{among, owners-known, owners-new, owners-distinct, no-data}

@@ -5,7 +5,7 @@ use mathlib.Core.List.{List, [], _∷_, _++_}
 use native.Mathlib.Omega.{arith}
 use lib.ListN.{length}
 use Rattle.grammar.specs.Listing.{RecordType, ResourceRecord}
-use Rattle.entry.specs.Parts.{number}
+use Rattle.entry.specs.Held.{number}
 use Rattle.records.specs.Gathered.{dataOf}
 use Rattle.records.proofs.DataLaws.{of-is, other-owner, other-type, length-data-append, data-one, data-not-one}
 use Rattle.table_fault.specs.Sweeping.{typeBit}

@@ -11,7 +11,7 @@ use Rattle.base.specs.Refusal.{recordRepeated, tableFull}
 use Rattle.base.specs.declared.Answer.{Answer}
 use Rattle.base.specs.declared.Answer.the-variants.{Accepted, Refused}
 use Rattle.grammar.specs.Listing.{ResourceRecord, Owner}
-use Rattle.entry.specs.Parts.{number}
+use Rattle.entry.specs.Held.{number}
 use Rattle.listing.specs.Giving.{Last, end, refusal, Gives}
 use Rattle.records.specs.Calls.{recordTests}
 use Rattle.records.specs.Gathered.{Single, owners}

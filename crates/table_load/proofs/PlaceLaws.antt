@@ -10,8 +10,7 @@ use Rattle.name.specs.Name.{canonical}
 use Rattle.name.proofs.WireLaws.{proper-short}
 use Rattle.dhcid_text.specs.DhcidReading.{zeroFilled}
 use Rattle.grammar.specs.Listing.{RecordType, ResourceRecord}
-use Rattle.entry.specs.Parts.{number}
-use Rattle.entry.specs.EntryIs.{held}
+use Rattle.entry.specs.Held.{number, held}
 use Rattle.entry.specs.declared.Record.{Record}
 use Rattle.writer.specs.Line.{RdataOf, Holds}
 use Rattle.writer.proofs.PlaceLaws.{nameIn, name-held}

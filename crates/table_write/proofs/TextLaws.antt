@@ -8,7 +8,7 @@ use lib.ListN.{length, take, drop, length-append}
 use lib.Seq.{take-add}
 use Rattle.name.specs.Promise.{textOf}
 use Rattle.grammar.specs.Listing.{RecordType}
-use Rattle.entry.specs.Parts.{number}
+use Rattle.entry.specs.Held.{number}
 use Rattle.writer.specs.Line.{line, lines}
 use Rattle.writer.specs.Parts.{restPart}
 use Rattle.writer.proofs.LineLaws.{rdataSize, rest-line, lines-append}

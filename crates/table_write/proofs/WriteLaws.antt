@@ -11,7 +11,7 @@ use Rattle.base.specs.Bytes.{overlay}
 use Rattle.base.proofs.Bytes.{overlay-append, overlay-none}
 use Rattle.name.specs.Promise.{textOf}
 use Rattle.name.proofs.DottedLaws.{length-textOf}
-use Rattle.entry.specs.Parts.{number}
+use Rattle.entry.specs.Held.{number}
 use Rattle.writer.specs.Parts.{restPart}
 use Rattle.slots.specs.Fields.{inField, there, fieldSize}
 use Rattle.slots.specs.Form.{TableEntry, WellFormed, field, slotBytes, IsSlot, IsTable}

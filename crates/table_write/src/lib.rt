@@ -14,7 +14,7 @@ use writer::rest_length;
 ghost use mathlib.Core.Path.{_≡_};
 ghost use lib.ListN.{length};
 ghost use Rattle.base.specs.Bytes.{overlay};
-ghost use Rattle.entry.specs.Parts.{number};
+ghost use Rattle.entry.specs.Held.{number};
 ghost use Rattle.slots.specs.Form.{IsSlot};
 ghost use Rattle.slots.specs.Promise.{OfSlot, Entries, OfTable};
 ghost use Rattle.records.specs.Written.{listingOf};

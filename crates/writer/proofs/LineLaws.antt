@@ -13,7 +13,7 @@ use Rattle.address.specs.Address.{writtenA, writtenAAAA}
 use Rattle.dhcid_text.specs.Dhcid.{base64}
 use Rattle.dhcid_text.proofs.Base64Laws.{length-base64}
 use Rattle.grammar.specs.Listing.{RecordType, mnemonic, ResourceRecord}
-use Rattle.entry.specs.Parts.{number}
+use Rattle.entry.specs.Held.{number}
 use Rattle.writer.specs.Line.{rdataText, line, lines}
 use Rattle.writer.specs.Parts.{typePart, rdataPart, restPart}
 use Rattle.writer.proofs.PartLaws.{length-a, length-aaaa}

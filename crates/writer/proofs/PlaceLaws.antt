@@ -11,8 +11,7 @@ use Rattle.name.specs.Promise.{textOf}
 use Rattle.name.proofs.WireLaws.{proper-some, proper-short}
 use Rattle.dhcid_text.specs.DhcidReading.{zeroFilled}
 use Rattle.grammar.specs.Listing.{RecordType, ResourceRecord}
-use Rattle.entry.specs.Parts.{number}
-use Rattle.entry.specs.EntryIs.{held}
+use Rattle.entry.specs.Held.{number, held}
 use Rattle.entry.specs.declared.Record.{Record}
 use Rattle.writer.specs.Line.{RdataOf, WellFormed, Holds, line}
 use Rattle.writer.specs.Parts.{restPart, lineOf}

@@ -17,7 +17,7 @@ use Rattle.name.specs.Promise.{textOf}
 use Rattle.address.specs.Address.{writtenA, writtenAAAA}
 use Rattle.dhcid_text.specs.Dhcid.{base64}
 use Rattle.grammar.specs.Listing.{RecordType, mnemonic, ResourceRecord}
-use Rattle.entry.specs.EntryIs.{held}
+use Rattle.entry.specs.Held.{held}
 use Rattle.entry.specs.declared.Record.{Record}
 
 -- ---- which records can be written

@@ -1,7 +1,7 @@
 use mathlib.Core.Path.{refl}
 use Rattle.name.specs.Name.{padded}
 use Rattle.dhcid_text.specs.DhcidReading.{zeroFilled}
-use Rattle.entry.specs.EntryIs.{noRecord}
+use Rattle.entry.specs.Held.{noRecord}
 use Rattle.entry.proofs.no_record.Statement.{statement}
 use Rattle.entry.proofs.no_record.Tie as tie
 
