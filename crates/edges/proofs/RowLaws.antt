@@ -8,10 +8,11 @@ use Rattle.base.specs.Bytes.{ascii, bigEndian, inBytes, eqBytes}
 use Rattle.base.specs.Dhcid.{identifierType, digestType, wellFormed}
 use Rattle.base.specs.Logic.{Every}
 use Rattle.name.specs.Label.{isUpper, isLower, isDigit, isLabelByte, lower}
-use Rattle.name.specs.Name.{wire, text, canonical}
+use Rattle.name.specs.Name.{wire, text, canonical, Spells}
 use Rattle.name.specs.Promise.{dotted, textOf}
 use Rattle.name.specs.ProperTest.{accepts, isProper}
 use Rattle.name.proofs.TextLaws.{lead, shifted, valid}
+use Rattle.name.proofs.Theorems.{canonical-form, spelled}
 use Rattle.name.proofs.WireLaws.{passes-proper, fails-proper}
 use Rattle.text.specs.Digits.{digitValue}
 use Rattle.dhcid_text.specs.Dhcid.{digit64, base64, joined}
@@ -77,7 +78,9 @@ name-holds : (n : List ℕ) (t : Option (List ℕ)) (b : Bool) → isProper n �
 unfolding textIf
 name-holds n none true p e = absurd (Option·some-ne-none (textOf (canonical n)) e)
 name-holds n none false p e = fails-proper n p
-name-holds n (some t) true p e = (passes-proper n p, ap orNone e)
+name-holds n (some t) true p e =
+    let proper = passes-proper n p in
+    (proper, subst (λ (w : List ℕ). Spells w (canonical n)) (ap orNone e) (spelled (canonical n) (canonical-form n proper .proper)))
 name-holds n (some t) false p e = absurd (Option·some-ne-none t (sym e))
 
 identifier-holds : (d i : List ℕ) (k : ℕ) → (request4 (requestWith d) .refusal ∷ request4 (requestWith d) .«id_type» ∷ identifierBytes (requestWith d) (request4 (requestWith d))) ≡ 0 ∷ k ∷ i
