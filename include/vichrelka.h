@@ -172,11 +172,11 @@ static inline uint32_t vichrelka_name_len(uint64_t answer)
  *     const uint8_t *name = vichrelka_name_source(answer) == VICHRELKA_SOURCE_SITE ? site : message;
  *     name += vichrelka_name_start(answer);
  *
- * Family 4 is a DHCPv4 message, family 6 a DHCPv6 one, which may stand inside up to eight relays' messages. With setting 1 it is
- * the client's name if that is a proper one, and else the site's; with setting 0 it is always the site's. The client's name is
- * that of DHCPv4 option 81 if flag E is set there, or that of DHCPv6 option 39. A proper name is in wire form: one or more labels
- * of 1 to 63 letters, digits, hyphens and underscores, each after a byte with its length, then one zero byte, 255 bytes at most
- * in all, and nothing behind it.
+ * Family 4 is a DHCPv4 message, family 6 a DHCPv6 one, which may stand inside up to eight relays' messages. Setting 1 prefers a
+ * proper name of the client to the site's; setting 0 takes the site's for every client. The client's name is that of DHCPv4
+ * option 81 if flag E is set there, or that of DHCPv6 option 39. A proper name is in wire form: one or more labels of 1 to 63
+ * letters, digits, hyphens and underscores, each after a byte with its length, and a zero byte, which is the last; it has no more
+ * than 255 bytes.
  *
  * Refusals, in order, with place 0: 12; the message's; 9. The message's are 1, 2, 3, 4, 5, 6, 7 and 8 for DHCPv4. For DHCPv6 they
  * are 1; then, level by level from the outermost on, 4 for one that is empty, 7, 11, 4 for its header and its options, and in a
@@ -226,9 +226,9 @@ uint64_t vichrelka_dhcid(uint32_t family, uint32_t setting,
 uint64_t vichrelka_listing_check(const uint8_t *text, size_t text_len);
 
 /*
- * The table of names: up to VICHRELKA_TABLE_NAMES names in order of arrival, each with at most one A, one AAAA and one DHCID, and at least
- * one of the three. It is VICHRELKA_TABLE_LEN bytes of yours; all zeros is the empty table, and they may be stored, copied and compared
- * as they are. Every call but the load tests that they are sound, and each leaves them so:
+ * The table of names: up to VICHRELKA_TABLE_NAMES names in the order in which they came. A name has an A, an AAAA or a DHCID, or more
+ * than one of these, but none of them twice. It is VICHRELKA_TABLE_LEN bytes of yours; all zeros is the empty table, and they may be
+ * stored, copied and compared as they are. Every call but the load tests that they are sound, and each leaves them so:
  *
  *     a slot       the name's wire length (1 byte), the name (255), flags (1), A (4), AAAA (16), DHCID (35)
  *     flags        1 A, 2 AAAA, 4 DHCID; at least one of them
@@ -258,6 +258,7 @@ uint64_t vichrelka_table_add(uint8_t *table, size_t table_len,
 
 /*
  * Delete this address of the name, which the client with this DHCID holds. Its value is 0. The DHCID stays, and so does the name.
+ * A message that releases a lease is no request, and vichrelka_dhcid refuses it with 7: keep name and DHCID with the lease.
  *
  * Refusals, in order: 12 (family), 40, 9, 15, 16, 33, 31, 30, 34.
  */

@@ -12,13 +12,14 @@ use Rattle.base.specs.declared.Answer.the-variants.{Accepted}
 use Rattle.base.proofs.Bytes.{length-overlay}
 use Rattle.slots.specs.Form.{Sound}
 use Rattle.table.specs.Calls.{Adds, Removes, Clears}
+use Rattle.table.specs.Demand2.{SoundAdd, SoundRemove, SoundClear}
 use Rattle.table.proofs.Theorems.{sound-add, others-add, order-add, installs, installs-so, sound-remove, removes-that, removes-if, sound-clear, clears-that, clears-if}
 use Rattle.records.specs.Written.{listingOf}
 use Rattle.records.specs.Calls.{Writes, Loads}
 use Rattle.records.proofs.Theorems as records
 use Rattle.demands.specs.Faults.{Stands}
 use Rattle.demands.specs.Told.{ToldC}
-use Rattle.demands.specs.Demand2.{SameTable, SoundAdd, AddsClient, SoundRemove, RemovesAddress, SoundClear, ClearsName}
+use Rattle.demands.specs.Demand2.{SameTable, AddsClient, RemovesAddress, ClearsName}
 use Rattle.demands.proofs.AnswerLaws.{told-c}
 use Rattle.demands.proofs.TellLaws.{load-tells}
 
@@ -54,9 +55,8 @@ module _ (b out left : List ℕ) (s : Sound 64 b) (room : 56512 ≤ length out) 
         told-c a e (load-tells (take r left) area a after l) (same-table b out (wrote .0) left area a after bytes s room enough (wrote .2) loaded)
 
 module _ (b name dhcid : List ℕ) (family : ℕ) (address : List ℕ) where
-  pub add-is : (policy : ℕ) (a : Answer) (left : List ℕ) → Adds 64 b name dhcid family address policy a left → SoundAdd b name dhcid family address policy → (s : Sound 64 b)
+  pub add-is : (policy : ℕ) (a : Answer) (left : List ℕ) → Adds 64 b name dhcid family address policy a left → SoundAdd 64 b name dhcid family address policy → (s : Sound 64 b)
       → AddsClient (s .table) name dhcid family address policy a left
-  unfolding SoundAdd
   add-is policy a left h args s =
       record {
         exactly = installs 64 b name dhcid family address policy a left h args s;
@@ -66,9 +66,9 @@ module _ (b name dhcid : List ℕ) (family : ℕ) (address : List ℕ) where
         order = order-add 64 b name dhcid family address policy a left h args s (sound-add 64 b name dhcid family address policy a left h s);
       }
 
-  pub remove-is : (a : Answer) (left : List ℕ) → Removes 64 b name dhcid family address a left → SoundRemove b name dhcid family address → (s : Sound 64 b)
+  pub remove-is : (a : Answer) (left : List ℕ) → Removes 64 b name dhcid family address a left → SoundRemove 64 b name dhcid family address → (s : Sound 64 b)
       → RemovesAddress (s .table) name dhcid family address a left
-  unfolding SoundRemove IsAccepted
+  unfolding IsAccepted
   remove-is a left h args s =
       let k = sound-remove 64 b name dhcid family address a left h s in
       record {
@@ -80,8 +80,8 @@ module _ (b name dhcid : List ℕ) (family : ℕ) (address : List ℕ) where
         deleted = λ (v, e). let d = removes-that 64 b name dhcid family address a left h args s v e k in (e ∙ ap Accepted (d .0), d .1);
       }
 
-pub clear-is : (b name : List ℕ) (a : Answer) (left : List ℕ) → Clears 64 b name a left → SoundClear b name → (s : Sound 64 b) → ClearsName (s .table) name a left
-unfolding SoundClear IsAccepted Stands
+pub clear-is : (b name : List ℕ) (a : Answer) (left : List ℕ) → Clears 64 b name a left → SoundClear 64 b name → (s : Sound 64 b) → ClearsName (s .table) name a left
+unfolding IsAccepted Stands
 clear-is b name a left h args s =
     let k = sound-clear 64 b name a left h s in
     record {

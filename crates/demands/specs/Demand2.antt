@@ -7,8 +7,6 @@ use mathlib.Core.Option.{some}
 use lib.ListN.{length, take, drop}
 use Rattle.base.specs.Answer.{value, IsAccepted}
 use Rattle.base.specs.Logic.{Every}
-use Rattle.base.specs.Family.{KnownFamily}
-use Rattle.base.specs.Order.{AllHold}
 use Rattle.base.specs.declared.Answer.{Answer}
 use Rattle.base.specs.declared.Answer.the-variants.{Accepted}
 use Rattle.name.specs.Name.{canonical}
@@ -19,8 +17,8 @@ use Rattle.dhcid.specs.declared.Chosen.{Chosen}
 use Rattle.slots.specs.Entry.{familyOf, names, addressOf}
 use Rattle.slots.specs.Form.{TableEntry, Sound}
 use Rattle.table.specs.Steps.{find}
-use Rattle.table.specs.Calls.{KnownPolicy, nameTests, argumentTests, Adds, Removes, Clears}
-use Rattle.table.specs.Demand2.{others, Ordered, MayInstall, Installs, Installed, Deleted, Cleared}
+use Rattle.table.specs.Calls.{Adds, Removes, Clears}
+use Rattle.table.specs.Demand2.{SoundAdd, SoundRemove, SoundClear, others, Ordered, MayInstall, Installs, Installed, Deleted, Cleared}
 use Rattle.records.specs.Calls.{Writes, Loads}
 use Rattle.demands.specs.Faults.{Stands}
 
@@ -46,11 +44,7 @@ pub record SameTable (b area : List ℕ) (a : Answer) (after : List ℕ) : Type 
 
 -- ---- "With sound arguments, an add installs a client exactly if the name is unused and a place is free, or holds that client's DHCID, or is held by another DHCID while the site lets the latest client win."
 
--- sound arguments: none of the tests of 12, 40, 9, 15 and 16 fails
-unfoldable pub SoundAdd : List ℕ → List ℕ → List ℕ → ℕ → List ℕ → ℕ → Type 0
-SoundAdd b name dhcid family address policy = AllHold (argumentTests 64 (KnownFamily family × KnownPolicy policy) b name dhcid family address)
-
--- an add to the table with the entries t left `left`, and a was answered
+-- an add to the table with the entries t left `left`, and a was answered; its arguments are sound, so that none of 12, 40, 9, 15 and 16 is given (table, specs/Demand2.antt)
 pub record AddsClient (t : List TableEntry) (name dhcid : List ℕ) (family : ℕ) (address : List ℕ) (policy : ℕ) (a : Answer) (left : List ℕ) : Type 0 where
   pub exactly : Installed 64 left (canonical name) dhcid (familyOf family) address a ↔ MayInstall 64 t (canonical name) dhcid policy
   pub sound : Sound 64 left
@@ -61,9 +55,6 @@ pub record AddsClient (t : List TableEntry) (name dhcid : List ℕ) (family : �
   pub order : Ordered (canonical name) (names t) (names (sound .table))
 
 -- ---- "A remove and a clear do what document 01 says and no more."
-
-unfoldable pub SoundRemove : List ℕ → List ℕ → List ℕ → ℕ → List ℕ → Type 0
-SoundRemove b name dhcid family address = AllHold (argumentTests 64 (KnownFamily family) b name dhcid family address)
 
 -- the name's entry in t has that client's DHCID and that address
 pub record HoldsAddress (t : List TableEntry) (name dhcid : List ℕ) (family : ℕ) (address : List ℕ) : Type 0 where
@@ -77,9 +68,6 @@ pub record RemovesAddress (t : List TableEntry) (name dhcid : List ℕ) (family 
   pub sound : Sound 64 left
   -- that address is gone, and nothing else
   pub deleted : IsAccepted a → (a ≡ Accepted 0) × Deleted t (sound .table) (canonical name) dhcid (familyOf family) address
-
-unfoldable pub SoundClear : List ℕ → List ℕ → Type 0
-SoundClear b name = AllHold (nameTests 64 b name)
 
 pub record ClearsName (t : List TableEntry) (name : List ℕ) (a : Answer) (left : List ℕ) : Type 0 where
   pub exactly : IsAccepted a ↔ Stands (canonical name) t
@@ -96,7 +84,7 @@ pub record Demand2 : Type 0 where
   pub same-table : (b out : List ℕ) (r : Answer) (left area : List ℕ) (a : Answer) (after : List ℕ) → Every (λ x. x < 256) b → Sound 64 b → 56512 ≤ length out → 19968 ≤ length area
       → Writes 64 b out r left → Loads 65536 64 (take (value r) left) area a after → SameTable b area a after
   pub add : (b name dhcid : List ℕ) (family : ℕ) (address : List ℕ) (policy : ℕ) (a : Answer) (left : List ℕ) → Adds 64 b name dhcid family address policy a left
-      → SoundAdd b name dhcid family address policy → (s : Sound 64 b) → AddsClient (s .table) name dhcid family address policy a left
+      → SoundAdd 64 b name dhcid family address policy → (s : Sound 64 b) → AddsClient (s .table) name dhcid family address policy a left
   pub remove : (b name dhcid : List ℕ) (family : ℕ) (address : List ℕ) (a : Answer) (left : List ℕ) → Removes 64 b name dhcid family address a left
-      → SoundRemove b name dhcid family address → (s : Sound 64 b) → RemovesAddress (s .table) name dhcid family address a left
-  pub clear : (b name : List ℕ) (a : Answer) (left : List ℕ) → Clears 64 b name a left → SoundClear b name → (s : Sound 64 b) → ClearsName (s .table) name a left
+      → SoundRemove 64 b name dhcid family address → (s : Sound 64 b) → RemovesAddress (s .table) name dhcid family address a left
+  pub clear : (b name : List ℕ) (a : Answer) (left : List ℕ) → Clears 64 b name a left → SoundClear 64 b name → (s : Sound 64 b) → ClearsName (s .table) name a left

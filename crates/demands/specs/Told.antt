@@ -11,10 +11,11 @@ use Rattle.dhcid.specs.Dhcid as request
 use Rattle.listing.specs.Reading.{Checks}
 use Rattle.slots.specs.Form.{Sound}
 use Rattle.table.specs.Calls.{Adds, Removes, Clears}
+use Rattle.table.specs.Demand2.{SoundAdd, SoundRemove, SoundClear}
 use Rattle.records.specs.Calls.{Writes, Loads}
 use Rattle.demands.specs.Faults.{InOrder, NameFault, DhcidFault, ListingFault, LoadFault, addTests, removeTests, clearTests, writeTests}
 use Rattle.demands.specs.Demand1.{Refuses, Unchanged}
-use Rattle.demands.specs.Demand2.{IsRfc4701, SoundAdd, AddsClient, SoundRemove, RemovesAddress, SoundClear, ClearsName}
+use Rattle.demands.specs.Demand2.{IsRfc4701, AddsClient, RemovesAddress, ClearsName}
 
 -- the number r tells the answer, of which P holds; and taking r apart as include/vichrelka.h does gives back what the answer says (base, specs/Answer.antt), since no refusal has the number 0
 pub record ToldC (r : ℕ) (P : Answer → Type 0) : Type 0 where
@@ -38,16 +39,16 @@ CheckTold t a = Checks t a × Refuses (ListingFault t) a
 abbrev pub AddTold : List ℕ → List ℕ → List ℕ → ℕ → List ℕ → ℕ → Answer → List ℕ → Type 0
 AddTold b name dhcid family address policy a left =
     Adds 64 b name dhcid family address policy a left × Refuses (InOrder (addTests b name dhcid family address policy)) a × Unchanged b left a
-    × (SoundAdd b name dhcid family address policy → (s : Sound 64 b) → AddsClient (s .table) name dhcid family address policy a left)
+    × (SoundAdd 64 b name dhcid family address policy → (s : Sound 64 b) → AddsClient (s .table) name dhcid family address policy a left)
 
 abbrev pub RemoveTold : List ℕ → List ℕ → List ℕ → ℕ → List ℕ → Answer → List ℕ → Type 0
 RemoveTold b name dhcid family address a left =
     Removes 64 b name dhcid family address a left × Refuses (InOrder (removeTests b name dhcid family address)) a × Unchanged b left a
-    × (SoundRemove b name dhcid family address → (s : Sound 64 b) → RemovesAddress (s .table) name dhcid family address a left)
+    × (SoundRemove 64 b name dhcid family address → (s : Sound 64 b) → RemovesAddress (s .table) name dhcid family address a left)
 
 abbrev pub ClearTold : List ℕ → List ℕ → Answer → List ℕ → Type 0
 ClearTold b name a left =
-    Clears 64 b name a left × Refuses (InOrder (clearTests b name)) a × Unchanged b left a × (SoundClear b name → (s : Sound 64 b) → ClearsName (s .table) name a left)
+    Clears 64 b name a left × Refuses (InOrder (clearTests b name)) a × Unchanged b left a × (SoundClear 64 b name → (s : Sound 64 b) → ClearsName (s .table) name a left)
 
 abbrev pub WriteTold : List ℕ → List ℕ → Answer → List ℕ → Type 0
 WriteTold b out a left = Writes 64 b out a left × Refuses (InOrder (writeTests b out)) a × Unchanged out left a

@@ -1,5 +1,5 @@
 -- What the running hash promises, for every state, and what it then says of a message.
--- Document 01, "DHCID bytes and their text": the running hash is eight words, an unfinished block of 64 bytes and a length.
+-- Document 01, "DHCID bytes and their text": a state has the eight words of the hash value so far, the bytes that wait for a whole block, and how many were taken.
 use Prim.Native.Nat.{ℕ, _+_, _*_, _/_, _%_, _^_}
 use mathlib.Core.Path.{_≡_}
 use mathlib.Core.List.{List, _++_}

@@ -32,7 +32,7 @@ fn be64(x: u64) -> [u8; 8]
     ]
 }
 
-// The padding of a message of len bytes, and zeros after it.
+// The padding of a message of len bytes, at the beginning of 72.
 pub(crate) fn padding_bytes(len: u64) -> [u8; 72]
     ensures { λ r. ⌜ take (9 + spec.zeroBytes len) r ≡ spec.padding len ⌝ }
 {

@@ -1,5 +1,5 @@
--- What the reader that holds on to a listing gives, one answer at a time. Document 01, "The listing's grammar", last paragraph: the records of the entries
--- before the first faulty one, then that refusal; 17 comes first; asked again, it repeats its refusal or the end.
+-- What the reader that holds on to a listing gives, one answer at a time. Document 01, "The listing's grammar", last paragraph: every record that stands
+-- before the first fault, and then that fault's refusal over and over, or the end where there is none; over the limit nothing but 17.
 use Prim.Native.Nat.{ℕ, zero, suc, _+_, _≤_, _<_}
 use mathlib.Core.Path.{_≡_}
 use mathlib.Core.List.{List, [], _∷_}

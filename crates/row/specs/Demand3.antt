@@ -17,6 +17,6 @@ pub record Demand3 (t : List ℕ) (lent handed : List Record) (a : Answer) : Typ
   pub accepted-exactly : IsAccepted a ↔ ((rs : List ResourceRecord) × Spells t rs × (length rs ≤ length lent))
   -- sentence 3: any two lists that it spells are the same list
   pub one-list : (rs qs : List ResourceRecord) → Spells t rs → Spells t qs → rs ≡ qs
-  -- sentence 4: what is handed over is that list, whole and in order: the count is its length, and the places from the first on hold its records in turn
+  -- sentence 4: the answer counts that list, and the row begins with its records, one in each place
   pub count : (rs : List ResourceRecord) → IsAccepted a → Spells t rs → value a ≡ length rs
   pub places : (rs : List ResourceRecord) → IsAccepted a → Spells t rs → take (length rs) handed ≡ map held rs

@@ -6,7 +6,6 @@ use mathlib.Core.List.{List}
 use mathlib.Core.Option.{some}
 use Rattle.base.specs.Bytes.{eqBytes}
 use Rattle.base.specs.Family.{KnownFamily}
-use Rattle.base.specs.Order.{AllHold}
 use Rattle.base.specs.declared.Answer.{Answer}
 use Rattle.base.specs.declared.Answer.the-variants.{Accepted, Refused}
 use Rattle.name.specs.Name.{canonical}
@@ -16,7 +15,7 @@ use Rattle.slots.specs.Form.{TableEntry, tableBytes, Sound}
 use Rattle.slots.proofs.Theorems.{one-sound-table}
 use Rattle.table.specs.Steps.{find}
 use Rattle.table.specs.Calls.{KnownPolicy, nameTests, argumentTests, Adds, Removes, Clears}
-use Rattle.table.specs.Demand2.{others, Ordered, MayInstall, Installs, Installed, Deleted, Cleared}
+use Rattle.table.specs.Demand2.{SoundAdd, SoundRemove, SoundClear, others, Ordered, MayInstall, Installs, Installed, Deleted, Cleared}
 use Rattle.table.proofs.CaseLaws.{add-case, remove-case, clear-case}
 use Rattle.table.proofs.DemandLaws.{
   one-call,
@@ -41,10 +40,6 @@ use Rattle.table.proofs.DemandLaws.{
 -- ---- add
 
 module _ (limit : ℕ) (b name dhcid : List ℕ) (family : ℕ) (address : List ℕ) (policy : ℕ) where
-  -- the arguments are sound: what is tested before the step holds
-  abbrev pub SoundAdd : Type 0
-  SoundAdd = AllHold (argumentTests limit (KnownFamily family × KnownPolicy policy) b name dhcid family address)
-
   -- the promise determines the answer and what is left
   pub one-add : (r q : Answer) (left also : List ℕ) → Adds limit b name dhcid family address policy r left → Adds limit b name dhcid family address policy q also → (r ≡ q) × (left ≡ also)
   unfolding Adds
@@ -75,7 +70,7 @@ module _ (limit : ℕ) (b name dhcid : List ℕ) (family : ℕ) (address : List 
             left-sound limit left _
             (add-leaves limit b (s .sound) (canonical name) dhcid (familyOf family) address policy (c .proper) (c .again) (s .all-hold .1 .1 .1 .0) (s .all-hold .1 .1 .1 .1 .0) .sound) (s .table)
 
-    module _ (args : SoundAdd) where
+    module _ (args : SoundAdd limit b name dhcid family address policy) where
       -- no other entry changes, and their order stays
       pub others-add : (s : Sound limit b) (k : Sound limit left) → others (canonical name) (k .table) ≡ others (canonical name) (s .table)
       unfolding Adds
@@ -95,7 +90,7 @@ module _ (limit : ℕ) (b name dhcid : List ℕ) (family : ℕ) (address : List 
           subst (λ (u : List TableEntry). Ordered (canonical name) (names (s .table)) (names u)) same
           (add-order limit b s (canonical name) dhcid (familyOf family) address policy (c .proper) (c .again) (args .1 .1 .1 .0) (args .1 .1 .1 .1 .0))
 
-      -- demand 2: the client is installed exactly if the name is unused and a place is free, or holds that client's DHCID, or is held by another DHCID while the policy is latest wins
+      -- demand 2: the client is installed in the three cases of MayInstall, and in no other
       pub installs : (s : Sound limit b) → Installed limit left (canonical name) dhcid (familyOf family) address r ↔ MayInstall limit (s .table) (canonical name) dhcid policy
       unfolding Adds
       installs s =
@@ -135,9 +130,6 @@ module _ (limit : ℕ) (b name dhcid : List ℕ) (family : ℕ) (address : List 
 -- ---- remove
 
 module _ (limit : ℕ) (b name dhcid : List ℕ) (family : ℕ) (address : List ℕ) where
-  abbrev pub SoundRemove : Type 0
-  SoundRemove = AllHold (argumentTests limit (KnownFamily family) b name dhcid family address)
-
   pub one-remove : (r q : Answer) (left also : List ℕ) → Removes limit b name dhcid family address r left → Removes limit b name dhcid family address q also → (r ≡ q) × (left ≡ also)
   unfolding Removes
   one-remove r q left also h k = one-call limit (argumentTests limit (KnownFamily family) b name dhcid family address) b _ r q left also h k
@@ -162,7 +154,7 @@ module _ (limit : ℕ) (b name dhcid : List ℕ) (family : ℕ) (address : List 
         go (inl f) = subst (Sound limit) (sym (f .unchanged)) sound
         go (inr s) = left-sound limit left _ (remove-leaves limit b (s .sound) (canonical name) dhcid (familyOf family) address .sound) (s .table)
 
-    module _ (args : SoundRemove) (s : Sound limit b) where
+    module _ (args : SoundRemove limit b name dhcid family address) (s : Sound limit b) where
       -- demand 2: an accepted remove deletes that address of that client, and nothing else
       pub removes-that : (v : ℕ) → r ≡ Accepted v → (k : Sound limit left) → (v ≡ 0) × Deleted (s .table) (k .table) (canonical name) dhcid (familyOf family) address
       unfolding Removes
@@ -203,7 +195,7 @@ module _ (limit : ℕ) (b name : List ℕ) where
         go (inl f) = subst (Sound limit) (sym (f .unchanged)) sound
         go (inr s) = left-sound limit left _ (clear-leaves limit b (s .sound) (canonical name) .sound) (s .table)
 
-    module _ (args : AllHold (nameTests limit b name)) (s : Sound limit b) where
+    module _ (args : SoundClear limit b name) (s : Sound limit b) where
       -- demand 2: an accepted clear takes the name, and nothing else
       pub clears-that : (v : ℕ) → r ≡ Accepted v → (k : Sound limit left) → (v ≡ 0) × Cleared (s .table) (k .table) (canonical name)
       unfolding Clears

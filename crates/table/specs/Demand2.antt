@@ -8,6 +8,8 @@ use mathlib.Core.List.{List, [], _∷_, _++_}
 use mathlib.Core.Option.{none, some}
 use lib.ListN.{length}
 use Rattle.base.specs.Bytes.{eqBytes}
+use Rattle.base.specs.Family.{KnownFamily}
+use Rattle.base.specs.Order.{AllHold}
 use Rattle.base.specs.declared.Answer.{Answer}
 use Rattle.base.specs.declared.Answer.the-variants.{Accepted}
 use Rattle.slots.specs.Effect.{entered, refreshed, takenOver, deleted}
@@ -15,6 +17,7 @@ use Rattle.slots.specs.Entry.{Entry, names, addressOf}
 use Rattle.slots.specs.Form.{TableEntry, Sound}
 use Rattle.slots.specs.declared.Family.{Family}
 use Rattle.table.specs.Steps.{find}
+use Rattle.table.specs.Calls.{KnownPolicy, nameTests, argumentTests}
 
 -- every entry but that of the name n, whole and in order
 unfoldable pub others : {H : Type 0} → List ℕ → List (Entry H) → List (Entry H)
@@ -25,9 +28,20 @@ others n (e ∷ t) = cond (eqBytes (e .name) n) (others n t) (e ∷ others n t)
 abbrev pub Ordered : List ℕ → List (List ℕ) → List (List ℕ) → Type 0
 Ordered n before after = (after ≡ before) ⊎ (after ≡ before ++ n ∷ [])
 
--- ---- "an add installs a client exactly if .."
+-- ---- sound arguments: none of the tests fails that come before the step
 
--- the name is unused and a place is free, or holds that client's DHCID, or is held by another DHCID while the policy is latest wins
+abbrev pub SoundAdd : ℕ → List ℕ → List ℕ → List ℕ → ℕ → List ℕ → ℕ → Type 0
+SoundAdd limit b name dhcid family address policy = AllHold (argumentTests limit (KnownFamily family × KnownPolicy policy) b name dhcid family address)
+
+abbrev pub SoundRemove : ℕ → List ℕ → List ℕ → List ℕ → ℕ → List ℕ → Type 0
+SoundRemove limit b name dhcid family address = AllHold (argumentTests limit (KnownFamily family) b name dhcid family address)
+
+abbrev pub SoundClear : ℕ → List ℕ → List ℕ → Type 0
+SoundClear limit b name = AllHold (nameTests limit b name)
+
+-- ---- the sentence on adds
+
+-- nobody has the name and there is room for it; the client has it already; or another client has it, and the policy is latest wins
 pub data MayInstall (limit : ℕ) (t : List TableEntry) (n d : List ℕ) (policy : ℕ) : Type 0 where
   unused : find n t ≡ none → length t < limit → MayInstall limit t n d policy
   same : (e : TableEntry) → find n t ≡ some e → e .holder ≡ some d → MayInstall limit t n d policy
@@ -50,7 +64,7 @@ pub record Installed (limit : ℕ) (left n d : List ℕ) (f : Family) (x : List 
   pub answer : r ≡ Accepted value
   pub known : value ≤ 2
 
--- ---- "a remove and a clear do what document 01 says and no more"
+-- ---- the sentence on removes and clears
 
 -- from the entries t to the entries u that address was deleted, of that client, and nothing else
 pub record Deleted (t u : List TableEntry) (n d : List ℕ) (f : Family) (x : List ℕ) : Type 0 where

@@ -17,7 +17,6 @@ use Rattle.writer.proofs.PlaceLaws.{nameIn, name-held}
 use Rattle.slots.specs.Fields.{fieldSize}
 use Rattle.slots.specs.Form.{TableEntry}
 use Rattle.slots.specs.declared.Rtype.{Rtype}
-use Rattle.slots.specs.declared.Rtype.the-variants as rtype
 use Rattle.records.specs.Promise.{rtypeOf, written, stored}
 use Rattle.table_load.specs.Promise.{numbered, AtSlot, Storable}
 
