@@ -10,7 +10,8 @@
 #
 # ARCHIVE=FILE and CHECKER=FILE are a library and a checker that are built already: nothing is then proved or built in their place.
 
-VERSION = 0.1.0
+# the header has it too, and says when which number goes up
+VERSION = 0.2.0
 PREFIX = /usr/local
 DESTDIR =
 ARCHIVE = target/staticlib/libvichrelka.a

@@ -83,7 +83,7 @@ static void vichrelka_pass(const void *given)
     const struct message *m = given;
     uint8_t out[VICHRELKA_DHCID_LEN];
     uint64_t answer = vichrelka_dhcid(m->family, 1, m->bytes, m->len, NULL, 0, out, sizeof out);
-    if (answer != VICHRELKA_DHCID_LEN || memcmp(out, m->dhcid, sizeof out) != 0)
+    if (vichrelka_value(answer) != VICHRELKA_DHCID_LEN || memcmp(out, m->dhcid, sizeof out) != 0)
         stop(m->what, "vichrelka does not give the RFC's DHCID");
 }
 

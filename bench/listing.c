@@ -80,7 +80,7 @@ static unsigned vichrelka_load(const struct text *t)
 {
     static uint8_t table[VICHRELKA_TABLE_LEN];
     unsigned records = 0;
-    if (vichrelka_table_load(table, sizeof table, t->bytes, t->len) != 0)
+    if (vichrelka_refusal(vichrelka_table_load(table, sizeof table, t->bytes, t->len)) != 0)
         return (unsigned)FAILED;
     for (int i = 0; i < VICHRELKA_TABLE_NAMES; i++)
         records += (unsigned)__builtin_popcount(table[VICHRELKA_SLOT_LEN * i + VICHRELKA_SLOT_FLAGS]);

@@ -246,7 +246,7 @@ static uint8_t read_data(const struct entry *e, size_t head, struct slot *s)
 }
 
 /* The fault of an entry with words, 0 if it has none; then its record is in the slot and its type's flag with it */
-static uint64_t read_entry(const struct entry *e, const uint8_t *start, struct slot *record, uint8_t *flag)
+static uint32_t read_entry(const struct entry *e, const uint8_t *start, struct slot *record, uint8_t *flag)
 {
     if (e->words[0].first != start || !proper_owner(e->words[0]))
         return VICHRELKA_REFUSED_ENTRY_OWNER;
@@ -282,9 +282,9 @@ uint64_t table_load_plain(uint8_t *table, size_t table_len, const uint8_t *text,
     for (const uint8_t *at = text, *end = text + text_len, *entry_end; at < end; at = entry_end + 1) {
         uint8_t flag;
         entry_end = cut(at, end, &e);
-        uint64_t fault = !entry_end ? VICHRELKA_REFUSED_ENTRY_SHAPE : e.count == 0 ? 0 : read_entry(&e, at, &record, &flag);
+        uint32_t fault = !entry_end ? VICHRELKA_REFUSED_ENTRY_SHAPE : e.count == 0 ? 0 : read_entry(&e, at, &record, &flag);
         if (fault != 0)
-            return refuse(fault) | (uint64_t)(at - text);
+            return refused(fault, (uint32_t)(at - text));
         if (e.count == 0)
             continue;
         size_t number = number_of(&seen, e.words[0]);
@@ -384,5 +384,5 @@ uint64_t table_write_plain(const uint8_t *table, size_t table_len, uint8_t *out,
         return refuse(VICHRELKA_REFUSED_OUTPUT_SHORT);
     if (len > 0)
         memcpy(out, lines, len);
-    return len;
+    return accepted((uint32_t)len);
 }

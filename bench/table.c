@@ -16,10 +16,6 @@ enum { ROUNDS = 40, CALLS_ONE = 1024, CALLS_FULL = 32, CALLS_LISTING = 8, CALLS_
 enum { ROUNDS_LEAST = 3, SECONDS = 5 };
 enum { NAMES = VICHRELKA_TABLE_NAMES, ADDRESS_LIMIT = 16 };
 
-static const uint64_t HELD_BY_ANOTHER = (uint64_t)VICHRELKA_REFUSED_HELD_BY_ANOTHER << 32;
-static const uint64_t TABLE_FULL = (uint64_t)VICHRELKA_REFUSED_TABLE_FULL << 32;
-static const uint64_t RECORD_REPEATED = (uint64_t)VICHRELKA_REFUSED_RECORD_REPEATED << 32;
-
 /* what may stand in a label, in lower case */
 static const char IN_LABEL[] = "abcdefghijklmnopqrstuvwxyz0123456789-_";
 enum { LABEL_BYTES = sizeof IN_LABEL - 1 };
@@ -234,12 +230,14 @@ static const struct listing *repeats(void)
 
 static void make_listing_cases(struct kind *k)
 {
-    new_listing_case(k, "write", CALLS_LISTING, (struct step){.call = WRITE, .want = k->listing.len});
+    new_listing_case(k, "write", CALLS_LISTING, (struct step){.call = WRITE, .want = accepted((uint32_t)k->listing.len)});
     new_listing_case(k, "load", CALLS_LISTING, (struct step){.call = LOAD, .listing = &k->listing});
     if (k == &kinds[KINDS - 1]) {
         static const char MOST[] = "65,536 bytes of listing";
-        new_listing_case(k, "load 4,470 names, refused (32)", CALLS_CROWD, (struct step){.call = LOAD, .listing = crowd(), .want = TABLE_FULL})->kind = MOST;
-        new_listing_case(k, "load 5,041 records, refused (35)", CALLS_CROWD, (struct step){.call = LOAD, .listing = repeats(), .want = RECORD_REPEATED})->kind = MOST;
+        struct step full = {.call = LOAD, .listing = crowd(), .want = refuse(VICHRELKA_REFUSED_TABLE_FULL)};
+        struct step repeated = {.call = LOAD, .listing = repeats(), .want = refuse(VICHRELKA_REFUSED_RECORD_REPEATED)};
+        new_listing_case(k, "load 4,470 names, refused (32)", CALLS_CROWD, full)->kind = MOST;
+        new_listing_case(k, "load 5,041 records, refused (35)", CALLS_CROWD, repeated)->kind = MOST;
     }
 }
 
@@ -252,26 +250,26 @@ static void make_cases(struct kind *k)
     }
     const struct entry *last = &k->entries[k->count - 1];
     struct list *l = new_case(k, "add, same client", 1);
-    append(l, ADD, last, 1);
+    append(l, ADD, last, accepted(1));
 
     l = new_case(k, "add, refused (30)", 1);
-    append(l, ADD_BY_ANOTHER, last, HELD_BY_ANOTHER);
+    append(l, ADD_BY_ANOTHER, last, refuse(VICHRELKA_REFUSED_HELD_BY_ANOTHER));
 
     l = new_case(k, "remove and add, the pair", 1);
-    append(l, REMOVE, last, 0);
-    append(l, ADD, last, 1);
+    append(l, REMOVE, last, accepted(0));
+    append(l, ADD, last, accepted(1));
 
     l = new_case(k, "clear and add, the pair", 1);
-    append(l, CLEAR, last, 0);
-    append(l, ADD, last, 0);
+    append(l, CLEAR, last, accepted(0));
+    append(l, ADD, last, accepted(0));
 
     if (k->count == 1)
         return;
     /* Behind the last name nothing moves up. Here each name is the first in its turn, and after all of them the order is as before. */
     l = new_case(k, "the same of the first name", k->count);
     for (int i = 0; i < k->count; i++) {
-        append(l, CLEAR, &k->entries[i], 0);
-        append(l, ADD, &k->entries[i], 0);
+        append(l, CLEAR, &k->entries[i], accepted(0));
+        append(l, ADD, &k->entries[i], accepted(0));
     }
 }
 
@@ -316,17 +314,17 @@ static void fill(struct kind *k)
     struct list l = {.kind = k->what, .what = "fill"};
     for (int i = 0; i < k->count; i++) {
         make_entry(&k->entries[i], k->write, i, i % 2 ? 6 : 4);
-        append(&l, ADD, &k->entries[i], 0);
+        append(&l, ADD, &k->entries[i], accepted(0));
         /* not for the other kinds: an add after a clear would not bring a second address back */
         if (k->three_records) {
             make_entry(&k->others[i], k->write, i, i % 2 ? 4 : 6);
-            append(&l, ADD, &k->others[i], 1);
+            append(&l, ADD, &k->others[i], accepted(1));
         }
     }
     memset(tables, 0, sizeof tables);
     compare(&l);
     memcpy(k->table, tables[PLAIN], sizeof k->table);
-    k->listing.len = table_write_plain(k->table, sizeof k->table, k->listing.text, sizeof k->listing.text);
+    k->listing.len = vichrelka_value(table_write_plain(k->table, sizeof k->table, k->listing.text, sizeof k->listing.text));
 }
 
 /* Time */

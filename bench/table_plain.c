@@ -151,7 +151,7 @@ uint64_t table_add_plain(uint8_t *table, size_t table_len, const uint8_t *name, 
         return refuse(VICHRELKA_REFUSED_KEPT_BY_HAND);
     if (memcmp(s->dhcid, dhcid, sizeof s->dhcid) == 0) {
         set_address(s, family, address);
-        return 1;
+        return accepted(1);
     }
     if (policy == VICHRELKA_FIRST_WINS)
         return refuse(VICHRELKA_REFUSED_HELD_BY_ANOTHER);
@@ -160,7 +160,7 @@ uint64_t table_add_plain(uint8_t *table, size_t table_len, const uint8_t *name, 
     memcpy(s->dhcid, dhcid, sizeof s->dhcid);
     s->flags = HAS_DHCID;
     set_address(s, family, address);
-    return 2;
+    return accepted(2);
 }
 
 uint64_t table_remove_plain(uint8_t *table, size_t table_len, const uint8_t *name, size_t name_len, const uint8_t *dhcid, size_t dhcid_len,

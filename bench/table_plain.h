@@ -3,6 +3,7 @@
 #include <stddef.h>
 #include <stdint.h>
 
+#include "../tests/answers.h"
 #include "vichrelka.h"
 
 /* The calls on the table of names in ordinary C, with the arguments and the answers of include/vichrelka.h: the yardstick of bench/table.c. */
@@ -30,6 +31,6 @@ int count_sound(const struct slot *slots, size_t table_len);
 /* identifier type and digest type, of as many bytes as a DHCID has */
 static inline int proper_dhcid(const uint8_t *dhcid) { return dhcid[0] == 0 && dhcid[1] <= 2 && dhcid[2] == 1; }
 
-static inline uint64_t refuse(uint64_t number) { return number << 32; }
+static inline uint64_t refuse(uint32_t number) { return refused(number, 0); }
 
 #endif

@@ -5,15 +5,19 @@
  * keeps the table of names. Every call is proved to meet a written promise for every input, the refused ones included; the comment
  * at each call says that promise in short, docs/PROMISES.md in full.
  *
- * Every call answers one uint64_t. The high half is the number of a refusal, 0 where the call was accepted; the low half is the
- * call's value where it was accepted, and an offset into what was refused where it was not. Take it apart with the three functions
- * below. A refused call has changed nothing.
+ * Every call answers one uint64_t: keep it in one. The low half is the number of a refusal, 0 where the call was accepted; the high
+ * half is the call's value where it was accepted, and an offset into what was refused where it was not. Take it apart with the three
+ * functions below. A refused call has changed nothing.
  *
  *     uint64_t answer = vichrelka_listing_check(text, text_len);
  *     if (vichrelka_refusal(answer) == 0)
  *         printf("%u records\n", (unsigned)vichrelka_value(answer));
  *     else
  *         printf("refused %u at %u\n", (unsigned)vichrelka_refusal(answer), (unsigned)vichrelka_place(answer));
+ *
+ * The halves stand so because C drops the high one in silence: an answer that is kept in an int by mistake still tells a refusal by
+ * its number, and a value that is taken so is 0 at the first try, and not a wrong one in the field. An answer that nobody keeps is
+ * warned of, by the compilers that can.
  *
  * What the caller owes, of every pointer with its length: so many bytes can be read there until the call returns, and nobody else
  * writes them meanwhile; the length is below 2^63; the pointer is null only if the length is 0. What a call writes (its pointer is
@@ -27,6 +31,22 @@
 
 #ifdef __cplusplus
 extern "C" {
+#endif
+
+/* The version. From 0.2.0 on the second number goes up with whatever adds a call, or changes what a call takes, answers or leaves, a
+   byte form or a size; the third with any other change. */
+#define VICHRELKA_VERSION "0.2.0"
+#define VICHRELKA_VERSION_MAJOR 0
+#define VICHRELKA_VERSION_MINOR 2
+#define VICHRELKA_VERSION_PATCH 0
+
+/* At every call: warn where its answer is dropped. Empty for a compiler that has no word for that. */
+#if (defined(__cplusplus) && __cplusplus >= 201703L) || (defined(__STDC_VERSION__) && __STDC_VERSION__ >= 202311L)
+#define VICHRELKA_NODISCARD [[nodiscard]]
+#elif defined(__GNUC__) || defined(__clang__)
+#define VICHRELKA_NODISCARD __attribute__((warn_unused_result))
+#else
+#define VICHRELKA_NODISCARD
 #endif
 
 /* The most bytes that a DHCP message may have. */
@@ -72,11 +92,13 @@ enum vichrelka_refused {
     VICHRELKA_REFUSED_OPTION_REPEATED = 5,
     /* DHCPv4: Option Overload (52) is there */
     VICHRELKA_REFUSED_OPTION_OVERLOAD = 6,
-    /* DHCPv4: option 53 is not just the byte 3, DHCPREQUEST; DHCPv6: a level is no Request, Renew, Rebind or Relay-forward */
+    /* DHCPv4: option 53 is absent, or not just the byte 3, DHCPREQUEST; DHCPv6: a level is no Request, Renew, Rebind or
+       Relay-forward */
     VICHRELKA_REFUSED_NOT_A_REQUEST = 7,
     /* DHCPv4: option 61 has fewer than 2 bytes, or is absent and hlen is 0; DHCPv6: option 1 is absent, or not of 3 to 130 bytes */
     VICHRELKA_REFUSED_NO_IDENTIFIER = 8,
-    /* no name can be used: the site's is no proper one, and the client's is not either or is not asked for */
+    /* no name can be used: the site's is no proper one, and the client's is not either or is not asked for; in add, remove and
+       clear: the name that was given is not proper */
     VICHRELKA_REFUSED_NO_PROPER_NAME = 9,
     /* DHCPv6: a ninth relay stands around the client's message */
     VICHRELKA_REFUSED_TOO_MANY_RELAYS = 11,
@@ -114,7 +136,7 @@ enum vichrelka_refused {
     VICHRELKA_REFUSED_ADDRESS_DIFFERS = 34,
     /* a listing that is loaded has two records of one type for one name, be they the same or not */
     VICHRELKA_REFUSED_RECORD_REPEATED = 35,
-    /* the table is not VICHRELKA_TABLE_LEN bytes, or they are not those of a table: see below, "The table of names" */
+    /* the table is not VICHRELKA_TABLE_LEN bytes, or they are not those of a table (all zeros are): see below, "The table of names" */
     VICHRELKA_REFUSED_TABLE_NOT_SOUND = 40
 };
 
@@ -133,20 +155,20 @@ enum vichrelka_source {
 /* The number of the refusal; 0 if the call was accepted. */
 static inline uint32_t vichrelka_refusal(uint64_t answer)
 {
-    return (uint32_t)(answer >> 32);
+    return (uint32_t)(answer & 0xffffffffu);
 }
 
 /* The value of an accepted call, which its comment names; 0 if it was refused. */
 static inline uint32_t vichrelka_value(uint64_t answer)
 {
-    return answer >> 32 == 0 ? (uint32_t)(answer & 0xffffffffu) : 0;
+    return vichrelka_refusal(answer) == 0 ? (uint32_t)(answer >> 32) : 0;
 }
 
 /* The offset of what was refused: the first byte of a listing's first faulty entry. 0 for every other refusal, and if the call was
    accepted. */
 static inline uint32_t vichrelka_place(uint64_t answer)
 {
-    return answer >> 32 == 0 ? 0 : (uint32_t)(answer & 0xffffffffu);
+    return vichrelka_refusal(answer) == 0 ? 0 : (uint32_t)(answer >> 32);
 }
 
 /* The value of vichrelka_name taken apart: the source, an enum vichrelka_source (bits 30 and 31); the offset there at which the name
@@ -182,6 +204,7 @@ static inline uint32_t vichrelka_name_len(uint64_t answer)
  * are 1; then, level by level from the outermost on, 4 for one that is empty, 7, 11, 4 for its header and its options, and in a
  * relay 4 for no option 9 and 5 for two; then, in the client's message, 5 and 8. Nothing is written, whatever the answer.
  */
+VICHRELKA_NODISCARD
 uint64_t vichrelka_name(uint32_t family, uint32_t setting,
                         const uint8_t *message, size_t message_len,
                         const uint8_t *site, size_t site_len);
@@ -201,6 +224,7 @@ uint64_t vichrelka_name(uint32_t family, uint32_t setting,
  * Refusals, in order, with place 0: those of vichrelka_name; 14, which no message leads to; 13 for fewer than VICHRELKA_DHCID_LEN
  * bytes of out. Where it is refused nothing is written.
  */
+VICHRELKA_NODISCARD
 uint64_t vichrelka_dhcid(uint32_t family, uint32_t setting,
                          const uint8_t *message, size_t message_len,
                          const uint8_t *site, size_t site_len,
@@ -223,6 +247,7 @@ uint64_t vichrelka_dhcid(uint32_t family, uint32_t setting,
  * at one with a fault: its place is the offset where that entry begins, its number the lowest that fits, of 20, 21, 22 and 24.
  * Nothing is written, whatever the answer.
  */
+VICHRELKA_NODISCARD
 uint64_t vichrelka_listing_check(const uint8_t *text, size_t text_len);
 
 /*
@@ -235,6 +260,9 @@ uint64_t vichrelka_listing_check(const uint8_t *text, size_t text_len);
  *     the name     a proper one in wire form, in lower case; no name stands twice
  *     the DHCID    VICHRELKA_DHCID_LEN bytes, identifier type 0, 1 or 2, digest type 1
  *     zeros        whatever is not used: bytes behind the name, absent fields, slots behind the last name
+ *
+ * All zeros are sound: a store that was lost and comes back as zeros is an empty table to every call, and 40 does not tell the one
+ * from the other. A host that has to know keeps a mark of its own beside the table.
  *
  * A name without a DHCID is kept by hand, and no client gets it. Names are given in wire form, in either case, and are stored in lower case.
  *
@@ -251,6 +279,7 @@ uint64_t vichrelka_listing_check(const uint8_t *text, size_t text_len);
  *
  * Refusals, in order: 12 (family, policy), 40, 9, 15, 16; then 31, 30 under VICHRELKA_FIRST_WINS, or 32.
  */
+VICHRELKA_NODISCARD
 uint64_t vichrelka_table_add(uint8_t *table, size_t table_len,
                              const uint8_t *name, size_t name_len,
                              const uint8_t *dhcid, size_t dhcid_len, uint32_t family,
@@ -262,6 +291,7 @@ uint64_t vichrelka_table_add(uint8_t *table, size_t table_len,
  *
  * Refusals, in order: 12 (family), 40, 9, 15, 16, 33, 31, 30, 34.
  */
+VICHRELKA_NODISCARD
 uint64_t vichrelka_table_remove(uint8_t *table, size_t table_len,
                                 const uint8_t *name, size_t name_len,
                                 const uint8_t *dhcid, size_t dhcid_len, uint32_t family,
@@ -272,6 +302,7 @@ uint64_t vichrelka_table_remove(uint8_t *table, size_t table_len,
  *
  * Refusals, in order: 40, 9, 33.
  */
+VICHRELKA_NODISCARD
 uint64_t vichrelka_table_clear(uint8_t *table, size_t table_len, const uint8_t *name, size_t name_len);
 
 /*
@@ -288,6 +319,7 @@ uint64_t vichrelka_table_clear(uint8_t *table, size_t table_len, const uint8_t *
  *
  * Refusals, in order, with place 0: 40; 13 for fewer bytes of out than the listing has. Where it is refused nothing is written.
  */
+VICHRELKA_NODISCARD
 uint64_t vichrelka_table_write(const uint8_t *table, size_t table_len, uint8_t *out, size_t out_len);
 
 /*
@@ -298,6 +330,7 @@ uint64_t vichrelka_table_write(const uint8_t *table, size_t table_len, uint8_t *
  * Refusals, in order: those of vichrelka_listing_check, with their places; then, with place 0, 35, 32 for more than VICHRELKA_TABLE_NAMES
  * names, and 13 for fewer than VICHRELKA_TABLE_LEN bytes of table. Where it is refused the table is as it was.
  */
+VICHRELKA_NODISCARD
 uint64_t vichrelka_table_load(uint8_t *table, size_t table_len, const uint8_t *text, size_t text_len);
 
 #ifdef __cplusplus

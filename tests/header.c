@@ -1,9 +1,10 @@
 /*
- * The header by itself, as C99 and as C++: included twice, every name used. Exits 0 if its numbers and functions are as it says.
+ * The header by itself, as C and as C++: included twice, every name used. Exits 0 if its numbers and functions are as it says.
  */
 #include "vichrelka.h"
 #include "vichrelka.h"
 
+#include <stdio.h>
 #include <string.h>
 
 static const char LISTING[] =
@@ -38,13 +39,18 @@ static uint64_t dhcid(uint32_t setting, uint8_t *out, size_t out_len)
 
 static int wrong_numbers(void)
 {
-    const uint64_t accepted = 0xffffffffu;
-    const uint64_t refused = ((uint64_t)VICHRELKA_REFUSED_ENTRY_DATA << 32) | 65535u;
-    const uint64_t chosen = (uint64_t)VICHRELKA_SOURCE_SITE << 30 | 300u << 8 | 18u;
+    const uint64_t accepted = (uint64_t)0xffffffffu << 32;
+    const uint64_t refused = (uint64_t)65535u << 32 | VICHRELKA_REFUSED_ENTRY_DATA;
+    const uint64_t last = ~(uint64_t)0;
+    const uint64_t chosen = ((uint64_t)VICHRELKA_SOURCE_SITE << 30 | 300u << 8 | 18u) << 32;
+    char version[32];
     int wrong = 0;
 
     wrong |= vichrelka_refusal(accepted) != 0 || vichrelka_value(accepted) != 0xffffffffu || vichrelka_place(accepted) != 0;
     wrong |= vichrelka_refusal(refused) != 24 || vichrelka_value(refused) != 0 || vichrelka_place(refused) != 65535u;
+    wrong |= vichrelka_refusal(last) != 0xffffffffu || vichrelka_value(last) != 0 || vichrelka_place(last) != 0xffffffffu;
+    sprintf(version, "%d.%d.%d", VICHRELKA_VERSION_MAJOR, VICHRELKA_VERSION_MINOR, VICHRELKA_VERSION_PATCH);
+    wrong |= strcmp(VICHRELKA_VERSION, version) != 0;
     wrong |= VICHRELKA_LISTING_LIMIT != 65536 || VICHRELKA_REFUSED_LISTING_LONG != 17 || VICHRELKA_REFUSED_ENTRY_SHAPE != 20;
     wrong |= VICHRELKA_REFUSED_ENTRY_OWNER != 21 || VICHRELKA_REFUSED_ENTRY_TYPE != 22;
     wrong |= VICHRELKA_MESSAGE_LIMIT != 2048 || VICHRELKA_DHCID_LEN != 35;
@@ -76,9 +82,9 @@ static int wrong_requests(void)
     wrong |= vichrelka_name_source(name(1)) != VICHRELKA_SOURCE_MESSAGE || vichrelka_name_start(name(1)) != 27 || vichrelka_name_len(name(1)) != 18;
     wrong |= vichrelka_refusal(name(0)) != VICHRELKA_REFUSED_NO_PROPER_NAME || vichrelka_refusal(name(2)) != VICHRELKA_REFUSED_UNKNOWN_SETTING;
     wrong |= vichrelka_refusal(dhcid(1, NULL, 0)) != VICHRELKA_REFUSED_OUTPUT_SHORT;
-    wrong |= dhcid(0, out, sizeof out) != (uint64_t)VICHRELKA_REFUSED_NO_PROPER_NAME << 32 || out[1] != 0;
+    wrong |= dhcid(0, out, sizeof out) != VICHRELKA_REFUSED_NO_PROPER_NAME || out[1] != 0;
     out[VICHRELKA_DHCID_LEN] = 0x5a;
-    wrong |= dhcid(1, out, sizeof out) != VICHRELKA_DHCID_LEN || out[VICHRELKA_DHCID_LEN] != 0x5a;
+    wrong |= dhcid(1, out, sizeof out) != (uint64_t)VICHRELKA_DHCID_LEN << 32 || out[VICHRELKA_DHCID_LEN] != 0x5a;
     wrong |= out[0] != 0 || out[1] != 2 || out[2] != 1 || out[3] != 0x63 || out[4] != 0x6f || out[34] != 0x40;
     return wrong;
 }
@@ -92,10 +98,10 @@ static int wrong_tables(void)
 
     wrong |= vichrelka_table_add(table, sizeof table, name, 3, client, sizeof client, 4, address, 4, VICHRELKA_FIRST_WINS) != 0;
     wrong |= table[0] != 3 || table[2] != 'a' || table[256] != 5 || table[257] != 192 || table[278] != 1;
-    wrong |= vichrelka_table_add(table, sizeof table, name, 3, client, sizeof client, 4, address, 4, VICHRELKA_FIRST_WINS) != 1;
+    wrong |= vichrelka_table_add(table, sizeof table, name, 3, client, sizeof client, 4, address, 4, VICHRELKA_FIRST_WINS) != (uint64_t)1 << 32;
     wrong |= vichrelka_refusal(vichrelka_table_add(table, sizeof table, name, 3, another, sizeof another, 4, address, 4, VICHRELKA_FIRST_WINS))
              != VICHRELKA_REFUSED_HELD_BY_ANOTHER;
-    wrong |= vichrelka_table_add(table, sizeof table, name, 3, another, sizeof another, 4, address, 4, VICHRELKA_LATEST_WINS) != 2;
+    wrong |= vichrelka_table_add(table, sizeof table, name, 3, another, sizeof another, 4, address, 4, VICHRELKA_LATEST_WINS) != (uint64_t)2 << 32;
     wrong |= vichrelka_table_remove(table, sizeof table, name, 3, another, sizeof another, 4, address, 4) != 0 || table[256] != 4;
     wrong |= vichrelka_refusal(vichrelka_table_remove(table, sizeof table, name, 3, another, sizeof another, 4, address, 4))
              != VICHRELKA_REFUSED_ADDRESS_DIFFERS;
@@ -110,9 +116,10 @@ static int wrong_listings(void)
     int wrong = 0;
 
     wrong |= vichrelka_listing_check(NULL, 0) != 0;
-    wrong |= sizeof LISTING - 1 != 140 || check(LISTING, sizeof LISTING - 1) != 3;
+    wrong |= sizeof LISTING - 1 != 140 || check(LISTING, sizeof LISTING - 1) != (uint64_t)3 << 32;
     wrong |= vichrelka_refusal(check(LISTING, 10)) != VICHRELKA_REFUSED_ENTRY_OWNER;
     wrong |= vichrelka_place(check(LISTING, 70)) != 65 || vichrelka_value(check(LISTING, 70)) != 0;
+    wrong |= check(LISTING, 70) != ((uint64_t)65 << 32 | VICHRELKA_REFUSED_ENTRY_OWNER);
     return wrong;
 }
 
@@ -122,17 +129,39 @@ static int wrong_tables_as_listings(void)
     int wrong = 0;
 
     wrong |= load(table, sizeof table, LISTING) != 0 || table[0] != 20 || table[256] != 1 || table[312] != 20 || table[312 + 256] != 5;
-    wrong |= vichrelka_table_write(table, sizeof table, out, sizeof out) != 140 || memcmp(out, LISTING, 140) != 0 || out[140] != 0;
+    wrong |= vichrelka_value(vichrelka_table_write(table, sizeof table, out, sizeof out)) != 140 || memcmp(out, LISTING, 140) != 0 || out[140] != 0;
     wrong |= vichrelka_refusal(vichrelka_table_write(table, sizeof table, out, 139)) != VICHRELKA_REFUSED_OUTPUT_SHORT;
     wrong |= vichrelka_refusal(vichrelka_table_write(table, sizeof table - 1, out, sizeof out)) != VICHRELKA_REFUSED_TABLE_NOT_SOUND;
     wrong |= vichrelka_refusal(load(table, sizeof table - 1, LISTING)) != VICHRELKA_REFUSED_OUTPUT_SHORT;
-    wrong |= load(table, sizeof table, "a. A 1.2.3.4\na. A 1.2.3.4\n") != (uint64_t)VICHRELKA_REFUSED_RECORD_REPEATED << 32;
+    wrong |= load(table, sizeof table, "a. A 1.2.3.4\na. A 1.2.3.4\n") != VICHRELKA_REFUSED_RECORD_REPEATED;
     wrong |= vichrelka_place(load(table, sizeof table, "a. A 1.2.3.4\n(")) != 13 || table[0] != 20;
     wrong |= vichrelka_table_load(table, sizeof table, NULL, 0) != 0 || vichrelka_table_write(table, sizeof table, NULL, 0) != 0;
     return wrong;
 }
 
+/* An answer kept in an int, which no compiler warns of unasked: a refusal is still told, and a value is 0 at the first try. */
+static int wrong_slips(void)
+{
+    static uint8_t table[VICHRELKA_TABLE_LEN], out[VICHRELKA_WRITTEN_LIMIT];
+    static const uint8_t held[] = {6, 'c', 'l', 'i', 'e', 'n', 't', 7, 'e', 'x', 'a', 'm', 'p', 'l', 'e', 3, 'c', 'o', 'm', 0};
+    static const uint8_t by_hand[] = {6, 't', 'a', 'n', 'k', '-', 'a', 7, 'e', 'x', 'a', 'm', 'p', 'l', 'e', 3, 'c', 'o', 'm', 0};
+    static const uint8_t name[] = {1, 'a', 0}, address[] = {192, 0, 2, 7}, client[VICHRELKA_DHCID_LEN] = {0, 1, 1};
+    int rc = load(table, sizeof table, LISTING), wrong = rc != 0;
+
+    rc = vichrelka_table_add(table, sizeof table, held, sizeof held, client, sizeof client, 4, address, 4, VICHRELKA_FIRST_WINS);
+    wrong |= rc != VICHRELKA_REFUSED_HELD_BY_ANOTHER;
+    rc = vichrelka_table_add(table, sizeof table, by_hand, sizeof by_hand, client, sizeof client, 4, address, 4, VICHRELKA_FIRST_WINS);
+    wrong |= rc != VICHRELKA_REFUSED_KEPT_BY_HAND;
+    rc = vichrelka_table_add(table, sizeof table, name, sizeof name, client, sizeof client, 4, address, 4, VICHRELKA_FIRST_WINS);
+    wrong |= rc != 0;
+    rc = vichrelka_table_write(table, sizeof table, out, sizeof out);
+    wrong |= rc != 0 || out[0] != 't';
+    rc = check(LISTING, 70);
+    wrong |= rc != VICHRELKA_REFUSED_ENTRY_OWNER;
+    return wrong;
+}
+
 int main(void)
 {
-    return wrong_numbers() | wrong_requests() | wrong_listings() | wrong_tables() | wrong_tables_as_listings();
+    return wrong_numbers() | wrong_requests() | wrong_listings() | wrong_tables() | wrong_tables_as_listings() | wrong_slips();
 }

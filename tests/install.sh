@@ -52,9 +52,12 @@ same "the library" "$library" "$prefix/lib/libvichrelka.a"
 # ---- a program
 
 pc=$prefix/lib/pkgconfig/vichrelka.pc
+version=$(sed -n 's/^#define VICHRELKA_VERSION "\(.*\)"$/\1/p' "$prefix/include/vichrelka.h")
+is "the version of Makefile and header" "$(sed -n 's/^VERSION = //p' Makefile)" "$version"
+is "the version of the .pc file" "Version: $version" "$(grep '^Version' "$pc")"
 if command -v pkg-config >/dev/null 2>&1; then
   export PKG_CONFIG_PATH="$prefix/lib/pkgconfig"
-  is "the version" "$(sed -n 's/^VERSION = //p' Makefile)" "$(pkg-config --modversion vichrelka)"
+  is "the version" "$version" "$(pkg-config --modversion vichrelka)"
   flags=$(pkg-config --cflags --libs vichrelka) || stop "pkg-config does not know vichrelka"
   eval "flags=($flags)"
 else

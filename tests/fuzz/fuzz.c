@@ -41,7 +41,7 @@ uint64_t answers[CALLS][NUMBERS];
 
 void count(enum call call, uint64_t answer)
 {
-    uint64_t number = answer >> 32;
+    uint32_t number = vichrelka_refusal(answer);
     answers[call][number < NUMBERS ? number : NUMBERS - 1]++;
 }
 

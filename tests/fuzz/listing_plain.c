@@ -139,19 +139,19 @@ static unsigned fault_of(char *line)
 uint64_t listing_check_plain(const uint8_t *text, size_t text_len)
 {
     char line[VICHRELKA_LISTING_LIMIT + 1];
-    uint64_t count = 0;
+    uint32_t count = 0;
     if (text_len > VICHRELKA_LISTING_LIMIT)
         return refuse(17);
     for (size_t at = 0, next; at < text_len; at = next) {
         next = flatten(text, text_len, at, line);
         if (next == 0)
-            return refuse(20) | at;
+            return refused(20, (uint32_t)at);
         if (strspn(line, " ") == strlen(line))
             continue;
         unsigned fault = fault_of(line);
         if (fault != 0)
-            return refuse(fault) | at;
+            return refused(fault, (uint32_t)at);
         count++;
     }
-    return count;
+    return accepted(count);
 }

@@ -182,7 +182,8 @@ uint64_t name_plain(uint32_t family, uint32_t setting, const uint8_t *message, s
     unsigned number = choose(family, setting, message, message_len, site, site_len, &r, &is_site);
     if (number != 0)
         return refuse(number);
-    return is_site ? 1u << 30 | r.name_len : (uint64_t)(r.name - message) << 8 | r.name_len;
+    uint32_t start = is_site ? 0 : (uint32_t)(r.name - message);
+    return accepted((is_site ? 1u << 30 : 0) | start << 8 | (uint32_t)r.name_len);
 }
 
 uint64_t dhcid_plain(uint32_t family, uint32_t setting, const uint8_t *message, size_t message_len, const uint8_t *site, size_t site_len,
@@ -203,5 +204,5 @@ uint64_t dhcid_plain(uint32_t family, uint32_t setting, const uint8_t *message, 
     out[1] = r.type;
     out[2] = 1;
     sha256_plain(hashed, r.identifier_len + r.name_len, out + 3);
-    return VICHRELKA_DHCID_LEN;
+    return accepted(VICHRELKA_DHCID_LEN);
 }

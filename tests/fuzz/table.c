@@ -175,7 +175,7 @@ static uint64_t call_write(uint8_t choice, uint8_t less)
     memset(fill, 0xa5, sizeof fill);
     memcpy(listing, fill, sizeof listing);
     if (choice & 1)
-        out_len = plain >> 32 != 0 ? less : plain > less ? plain - less : 0;
+        out_len = vichrelka_refusal(plain) != 0 ? less : vichrelka_value(plain) > less ? vichrelka_value(plain) - less : 0;
     plain = table_write_plain(table, table_len, listing, out_len);
     count(WRITE, plain);
     for (enum way way = ENDS; way <= (table_len == 0 || out_len == 0 ? NULLS : STARTS); way++) {
@@ -190,8 +190,7 @@ static uint64_t call_write(uint8_t choice, uint8_t less)
 /* The table's own listing, with a byte changed or not, into an area that holds the table: changed or not, it comes back as the listing says. */
 static void call_load(struct input *in)
 {
-    uint64_t written = call_write(0, 0);
-    size_t text_len = written >> 32 == 0 ? (size_t)written : 0;
+    size_t text_len = vichrelka_value(call_write(0, 0));
     uint8_t changes = take(in) & 3;
     for (; changes > 0 && text_len > 0; changes--) {
         size_t at = take_two(in) % text_len;

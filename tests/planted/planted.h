@@ -8,11 +8,13 @@
 
 #include <string.h>
 
+#include "../answers.h"
 #include "vichrelka.h"
 
-static inline uint64_t refused(uint32_t number, uint32_t place)
+/* The same answer with its halves the other way round */
+static inline uint64_t exchanged(uint64_t answer)
 {
-    return (uint64_t)number << 32 | place;
+    return answer << 32 | answer >> 32;
 }
 
 static inline int is_label_byte(uint8_t c)

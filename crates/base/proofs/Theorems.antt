@@ -4,15 +4,16 @@ use mathlib.Core.Path.{_≡_, sym, _∙_}
 use mathlib.Core.Logic.{inl, inr}
 use mathlib.Core.List.{List, [], _∷_}
 use native.Mathlib.Omega.{arith}
-use Rattle.base.specs.Answer.{Fits, TakenApart}
+use Rattle.base.specs.Answer.{In32Bits, TakenApart}
 use Rattle.base.specs.Order.{Test, AllHold, FirstFault}
 use Rattle.base.specs.declared.Answer.{Answer}
 use Rattle.base.specs.declared.Answer.the-variants.{Accepted, Refused}
 
 -- C loses nothing of an answer
-pub taken-apart : (a : Answer) → Fits a → TakenApart a
-taken-apart (Accepted v) fits = record { high = omega arith; low = omega arith }
-taken-apart (Refused n o) fits = record { high = omega arith; low = omega arith }
+pub taken-apart : (a : Answer) → In32Bits a → TakenApart a
+unfolding In32Bits
+taken-apart (Accepted v) small = record { low = omega arith; high = omega arith }
+taken-apart (Refused n o) small = record { low = omega arith; high = omega arith }
 
 -- ---- the order of refusals: one number is given, and none where everything holds
 

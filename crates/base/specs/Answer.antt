@@ -24,21 +24,21 @@ offset (Refused n o) = o
 unfoldable pub IsAccepted : Answer → Type 0
 IsAccepted a = (count : ℕ) × (a ≡ Accepted count)
 
--- the one number that C gets: the refusal's number above 32 bits, and in them its offset; or 0 and the value
+-- the one number that C gets: in the low 32 bits the refusal's number, 0 where the call was accepted; above them the value, or the refusal's offset. So a
+-- host that keeps the answer in 32 bits by mistake still has the refusal
 abbrev pub forC : Answer → ℕ
-forC (Accepted v) = v
-forC (Refused n o) = n * 2 ^ 32 + o
+forC (Accepted v) = v * 2 ^ 32
+forC (Refused n o) = o * 2 ^ 32 + n
+
+-- the refusal's number has 32 bits, as in every `Answer` of the code
+unfoldable pub In32Bits : Answer → Type 0
+In32Bits a = number a < 2 ^ 32
 
 -- the number r tells C an answer of which P holds
 unfoldable pub Tells : ℕ → (Answer → Type 0) → Type 0
-Tells r P = (a : Answer) × (r ≡ forC a) × P a
+Tells r P = (a : Answer) × (r ≡ forC a) × In32Bits a × P a
 
--- value and offset are 32 bits each, as every `Answer` of the code has them
-pub record Fits (a : Answer) : Type 0 where
-  pub small-value : value a < 2 ^ 32
-  pub small-offset : offset a < 2 ^ 32
-
--- C takes the number apart: above 32 bits the refusal's number, and in them the value where it is 0 and the offset where it is not
+-- C takes the number apart: in the low 32 bits the refusal's number, and above them the value where that is 0 and the offset where it is not
 pub record TakenApart (a : Answer) : Type 0 where
-  pub high : forC a / 2 ^ 32 ≡ number a
-  pub low : forC a % 2 ^ 32 ≡ value a + offset a
+  pub low : forC a % 2 ^ 32 ≡ number a
+  pub high : forC a / 2 ^ 32 ≡ value a + offset a

@@ -1,11 +1,11 @@
 -- Lists of bytes: what a copy leaves, and a number as bytes.
-use Prim.Native.Nat.{ℕ, zero, suc, _+_, _*_, _/_, _%_, _^_}
+use Prim.Native.Nat.{ℕ, zero, suc, _+_, _-_, _*_, _/_, _%_, _^_}
 use Prim.Native.Char.{code}
 use Prim.Native.String.{String, [] as empty, _∷_ as _then_}
 use mathlib.Core.Bool.{Bool, true, false, _&&_}
 use mathlib.Core.List.{List, [], _∷_, _++_}
 use lib.Dec.{eqb}
-use lib.ListN.{length, take, drop}
+use lib.ListN.{length, take, drop, replicate}
 
 -- `to`, with the bytes from index `at` on replaced by `from`: what a lent slice holds once `from` has been written there
 unfoldable pub overlay : List ℕ → ℕ → List ℕ → List ℕ
@@ -20,6 +20,14 @@ bigEndian (suc n) x = (x / 2 ^ (8 * n) % 2 ^ 8) ∷ bigEndian n x
 unfoldable pub inBytes : ℕ → List ℕ → List ℕ
 inBytes n [] = []
 inBytes n (x ∷ xs) = bigEndian n x ++ inBytes n xs
+
+-- the 255 bytes that hold a name in a record and in a slot of the table: the name, and zeros after it
+unfoldable pub padded : List ℕ → List ℕ
+padded n = n ++ replicate (255 - length n) 0
+
+-- the 35 bytes that hold a record's data: the data, and zeros after them; while they are read, those that were read so far
+unfoldable pub zeroFilled : List ℕ → List ℕ
+zeroFilled bs = bs ++ replicate (35 - length bs) 0
 
 -- f 0, f 1, and so on, n of them
 unfoldable pub tabulate : (ℕ → ℕ) → ℕ → List ℕ

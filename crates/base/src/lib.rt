@@ -27,13 +27,14 @@ impl Answer {
         }
     }
 
-    // The answer as C gets it: the high 32 bits are the refusal's number, the low 32 bits its offset; or 0 and the value.
+    // The answer as C gets it: the low 32 bits are the refusal's number, 0 where accepted; the high 32 bits are its offset, or the value.
     pub fn for_c(self) -> u64
-        ensures { λ r. ⌜ r ≡ spec.forC self ⌝ }
+        ensures told { λ r. ⌜ r ≡ spec.forC self ⌝ }
+        ensures small { λ _. ⌜ spec.In32Bits self ⌝ }
     {
         match self {
-            Answer::Accepted(value) => value as u64,
-            Answer::Refused { number, offset } => (number as u64) * 4294967296 + (offset as u64),
+            Answer::Accepted(value) => (value as u64) * 4294967296,
+            Answer::Refused { number, offset } => (offset as u64) * 4294967296 + (number as u64),
         }
     }
 }

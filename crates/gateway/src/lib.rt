@@ -6,13 +6,14 @@ ghost use Rattle.dhcid.specs.Chosen.{Names};
 ghost use Rattle.dhcid.specs.Dhcid as request;
 ghost use Rattle.records.specs.Calls.{Writes, Loads};
 ghost use Rattle.table.specs.Calls.{Adds, Removes, Clears};
+ghost use Rattle.slots.specs.Sizes.{mostNames};
 
 // uint64_t vichrelka_name(uint32_t family, uint32_t setting, const uint8_t *message, size_t message_len, const uint8_t *site, size_t site_len)
 #[no_mangle]
 pub extern "C" fn vichrelka_name(family: u32, setting: u32, message: &[u8], site: &[u8]) -> u64
     ensures { λ r. ⌜ Tells r (λ a. Names family setting (now (message .entry)) (now (site .entry)) a) ⌝ }
 {
-    dhcid::place(family, setting, message, site).for_c()
+    dhcid::locate(family, setting, message, site).for_c()
 }
 
 // uint64_t vichrelka_dhcid(uint32_t family, uint32_t setting, const uint8_t *message, size_t message_len, const uint8_t *site, size_t site_len,
@@ -25,7 +26,7 @@ pub extern "C" fn vichrelka_dhcid<'a>(
     site: &'a [u8],
     out: &mut [u8],
 ) -> u64
-    ensures { λ r. ⌜ Tells r (λ a. request.Writes family setting (now (message .entry)) (now (site .entry)) (now (out .entry)) a (now (out .exit))) ⌝ }
+    ensures { λ r. ⌜ Tells r (λ a. request.WritesDhcid family setting (now (message .entry)) (now (site .entry)) (now (out .entry)) a (now (out .exit))) ⌝ }
 {
     dhcid::put_dhcid(family, setting, message, site, out).for_c()
 }
@@ -49,7 +50,7 @@ pub extern "C" fn vichrelka_table_add(
     address: &[u8],
     policy: u32,
 ) -> u64
-    ensures { λ r. ⌜ Tells r (λ a. Adds 64 (now (table .entry)) (now (name .entry)) (now (dhcid .entry)) family (now (address .entry)) policy a (now (table .exit))) ⌝ }
+    ensures { λ r. ⌜ Tells r (λ a. Adds mostNames (now (table .entry)) (now (name .entry)) (now (dhcid .entry)) family (now (address .entry)) policy a (now (table .exit))) ⌝ }
 {
     table::add(table, name, dhcid, family, address, policy).for_c()
 }
@@ -64,7 +65,7 @@ pub extern "C" fn vichrelka_table_remove(
     family: u32,
     address: &[u8],
 ) -> u64
-    ensures { λ r. ⌜ Tells r (λ a. Removes 64 (now (table .entry)) (now (name .entry)) (now (dhcid .entry)) family (now (address .entry)) a (now (table .exit))) ⌝ }
+    ensures { λ r. ⌜ Tells r (λ a. Removes mostNames (now (table .entry)) (now (name .entry)) (now (dhcid .entry)) family (now (address .entry)) a (now (table .exit))) ⌝ }
 {
     table::remove(table, name, dhcid, family, address).for_c()
 }
@@ -72,7 +73,7 @@ pub extern "C" fn vichrelka_table_remove(
 // uint64_t vichrelka_table_clear(uint8_t *table, size_t table_len, const uint8_t *name, size_t name_len)
 #[no_mangle]
 pub extern "C" fn vichrelka_table_clear(table: &mut [u8], name: &[u8]) -> u64
-    ensures { λ r. ⌜ Tells r (λ a. Clears 64 (now (table .entry)) (now (name .entry)) a (now (table .exit))) ⌝ }
+    ensures { λ r. ⌜ Tells r (λ a. Clears mostNames (now (table .entry)) (now (name .entry)) a (now (table .exit))) ⌝ }
 {
     table::clear(table, name).for_c()
 }
@@ -80,7 +81,7 @@ pub extern "C" fn vichrelka_table_clear(table: &mut [u8], name: &[u8]) -> u64
 // uint64_t vichrelka_table_write(const uint8_t *table, size_t table_len, uint8_t *out, size_t out_len)
 #[no_mangle]
 pub extern "C" fn vichrelka_table_write(table: &[u8], out: &mut [u8]) -> u64
-    ensures { λ r. ⌜ Tells r (λ a. Writes 64 (now (table .entry)) (now (out .entry)) a (now (out .exit))) ⌝ }
+    ensures { λ r. ⌜ Tells r (λ a. Writes mostNames (now (table .entry)) (now (out .entry)) a (now (out .exit))) ⌝ }
 {
     table_write::write(table, out).for_c()
 }
@@ -88,7 +89,7 @@ pub extern "C" fn vichrelka_table_write(table: &[u8], out: &mut [u8]) -> u64
 // uint64_t vichrelka_table_load(uint8_t *table, size_t table_len, const uint8_t *text, size_t text_len)
 #[no_mangle]
 pub extern "C" fn vichrelka_table_load(table: &mut [u8], text: &[u8]) -> u64
-    ensures { λ r. ⌜ Tells r (λ a. Loads limit 64 (now (text .entry)) (now (table .entry)) a (now (table .exit))) ⌝ }
+    ensures { λ r. ⌜ Tells r (λ a. Loads limit mostNames (now (text .entry)) (now (table .entry)) a (now (table .exit))) ⌝ }
 {
     table_load::load(table, text).for_c()
 }

@@ -4,5 +4,5 @@
 uint64_t planted_check(const uint8_t *text, size_t len)
 {
     uint64_t answer = right_check(text, len);
-    return vichrelka_value(answer) >= 3 ? answer + 1 : answer;
+    return vichrelka_value(answer) >= 3 ? accepted(vichrelka_value(answer) + 1) : answer;
 }

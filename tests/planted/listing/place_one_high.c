@@ -4,5 +4,5 @@
 uint64_t planted_check(const uint8_t *text, size_t len)
 {
     uint64_t answer = right_check(text, len);
-    return vichrelka_refusal(answer) >= VICHRELKA_REFUSED_ENTRY_SHAPE ? answer + 1 : answer;
+    return vichrelka_refusal(answer) >= VICHRELKA_REFUSED_ENTRY_SHAPE ? refused(vichrelka_refusal(answer), vichrelka_place(answer) + 1) : answer;
 }

@@ -10,9 +10,9 @@ uint64_t planted_write(WRITING)
     int type;
     if (vichrelka_refusal(answer) != 0)
         return answer;
-    listing[answer] = 0;
+    listing[vichrelka_value(answer)] = 0;
     for (type = 0; type < 3; type++)
-        for (at = 0; at < answer; at += line_at(listing + at).len) {
+        for (at = 0; at < vichrelka_value(answer); at += line_at(listing + at).len) {
             struct line line = line_at(listing + at);
             len += is_of_type[type](&line) ? put_line(&line, sorted + len) : 0;
         }

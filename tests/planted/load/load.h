@@ -248,7 +248,7 @@ static inline uint64_t write_text(const uint8_t *text, size_t len, uint8_t *out,
         return refused(OUTPUT_SHORT, 0);
     if (len > 0)
         memcpy(out, text, len);
-    return len;
+    return accepted((uint32_t)len);
 }
 
 /* What the library would answer with room enough; the listing goes to `listing` and out stays as it is. */
@@ -316,8 +316,8 @@ static inline size_t put_with_data(const struct line *line, const void *data, si
         struct line line; \
         if (vichrelka_refusal(answer) != 0) \
             return answer; \
-        listing[answer] = 0; \
-        for (at = 0; at < answer; at += line.len) { \
+        listing[vichrelka_value(answer)] = 0; \
+        for (at = 0; at < vichrelka_value(answer); at += line.len) { \
             line = line_at(listing + at); \
             len += change(&line, changed + len); \
         } \

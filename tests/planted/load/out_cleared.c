@@ -5,6 +5,6 @@ uint64_t planted_write(WRITING)
 {
     uint64_t answer = right_write(GIVEN_WRITING);
     if (vichrelka_refusal(answer) == 0 && out_len <= LISTING)
-        memset(out + answer, 0, out_len - answer);
+        memset(out + vichrelka_value(answer), 0, out_len - vichrelka_value(answer));
     return answer;
 }

@@ -4,7 +4,7 @@
 uint64_t planted_write(WRITING)
 {
     uint64_t answer = right_write(GIVEN_WRITING);
-    if (vichrelka_refusal(answer) == 0 && answer < out_len)
-        out[answer] = 0;
+    if (vichrelka_refusal(answer) == 0 && vichrelka_value(answer) < out_len)
+        out[vichrelka_value(answer)] = 0;
     return answer;
 }

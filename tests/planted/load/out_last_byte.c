@@ -4,8 +4,8 @@
 uint64_t planted_write(WRITING)
 {
     uint64_t answer = write_only(table, table_len);
-    if (vichrelka_refusal(answer) != 0 || answer == 0 || answer > out_len)
+    if (vichrelka_value(answer) == 0 || vichrelka_value(answer) > out_len)
         return right_write(GIVEN_WRITING);
-    memcpy(out, listing, answer - 1);
+    memcpy(out, listing, vichrelka_value(answer) - 1);
     return answer;
 }

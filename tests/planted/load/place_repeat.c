@@ -11,5 +11,5 @@ uint64_t planted_load(LOADING)
     for (other = 1;; other++)
         for (one = 0; one < other; one++)
             if (is_repeat(one, other))
-                return answer | (uint64_t)(records[other].entry - text);
+                return refused(RECORD_REPEATED, (uint32_t)(records[other].entry - text));
 }

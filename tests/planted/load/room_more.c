@@ -3,6 +3,6 @@
 
 uint64_t planted_write(WRITING)
 {
-    uint64_t answer = write_only(table, table_len);
-    return answer > 0 && answer == out_len ? refused(OUTPUT_SHORT, 0) : right_write(GIVEN_WRITING);
+    uint32_t len = vichrelka_value(write_only(table, table_len));
+    return len > 0 && len == out_len ? refused(OUTPUT_SHORT, 0) : right_write(GIVEN_WRITING);
 }

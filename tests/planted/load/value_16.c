@@ -4,5 +4,5 @@
 uint64_t planted_write(WRITING)
 {
     uint64_t answer = right_write(GIVEN_WRITING);
-    return vichrelka_value(answer) > INT16_MAX ? (uint32_t)(int16_t)answer : answer;
+    return vichrelka_value(answer) > INT16_MAX ? accepted((uint32_t)(int16_t)vichrelka_value(answer)) : answer;
 }

@@ -4,5 +4,5 @@
 uint64_t planted_load(LOADING)
 {
     uint64_t answer = right_load(GIVEN_LOADING);
-    return answer == 0 ? used(area) : answer;
+    return answer == accepted(0) ? accepted((uint32_t)used(area)) : answer;
 }

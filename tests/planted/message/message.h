@@ -36,7 +36,7 @@ static inline uint64_t ask_name(const struct request *r)
 {
     uint64_t answer = right_name(r->family, r->setting, r->message, r->message_len, r->site, r->site_len);
     int in_message = vichrelka_refusal(answer) == 0 && vichrelka_name_source(answer) == VICHRELKA_SOURCE_MESSAGE;
-    return in_message ? answer + ((uint64_t)r->skipped << 8) : answer;
+    return in_message ? accepted(vichrelka_value(answer) + (r->skipped << 8)) : answer;
 }
 
 static inline uint64_t ask_dhcid(const struct request *r, uint8_t *out, size_t out_len)

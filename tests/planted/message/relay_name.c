@@ -7,5 +7,5 @@ uint64_t planted_name(REQUEST)
     size_t end;
     if (vichrelka_refusal(answer) != 0 || family != 6 || vichrelka_name_source(answer) != VICHRELKA_SOURCE_MESSAGE)
         return answer;
-    return answer - ((uint64_t)innermost(message, message_len, &end) << 8);
+    return accepted(vichrelka_value(answer) - ((uint32_t)innermost(message, message_len, &end) << 8));
 }

@@ -3,7 +3,7 @@
 
 uint64_t planted_name(REQUEST)
 {
-    static uint64_t last = (uint64_t)VICHRELKA_REFUSED_NO_PROPER_NAME << 32;
+    static uint64_t last = VICHRELKA_REFUSED_NO_PROPER_NAME; /* at place 0 */
     uint64_t answer = right_name(GIVEN);
     if (vichrelka_refusal(answer) == 0)
         last = answer;

@@ -4,5 +4,5 @@
 uint64_t planted_name(REQUEST)
 {
     uint64_t answer = right_name(GIVEN);
-    return vichrelka_refusal(answer) == 0 ? answer & 0x3fffffff : answer;
+    return vichrelka_refusal(answer) == 0 ? accepted(vichrelka_value(answer) & 0x3fffffff) : answer;
 }

@@ -4,7 +4,7 @@
 static uint64_t judged(struct step *s)
 {
     uint64_t answer = ask(s);
-    return answer == 0 ? used(s->table) : answer;
+    return answer == accepted(0) ? accepted((uint32_t)used(s->table)) : answer;
 }
 
 PLANT_CLEAR(judged)

@@ -11,7 +11,7 @@ static uint64_t judged(struct step *s)
     memcpy(slot + DHCID_AT, s->dhcid, DHCID);
     memcpy(address_in(slot, s->family), s->address, s->address_len);
     slot[FLAGS_AT] = HAS_DHCID | flag_of(s->family);
-    return 2;
+    return accepted(2);
 }
 
 PLANT_ADD(judged)

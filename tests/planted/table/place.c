@@ -4,7 +4,7 @@
 static uint64_t judged(struct step *s)
 {
     uint64_t answer = ask(s);
-    return vichrelka_refusal(answer) == NOT_SOUND ? answer + (uint32_t)s->table_len : answer;
+    return vichrelka_refusal(answer) == NOT_SOUND ? refused(NOT_SOUND, (uint32_t)s->table_len) : answer;
 }
 
 PLANT_REMOVE(judged)

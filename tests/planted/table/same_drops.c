@@ -6,7 +6,7 @@ static uint64_t judged(struct step *s)
     uint32_t other = s->family == 4 ? 6 : 4;
     uint8_t *slot = find(s);
     uint64_t answer = ask(s);
-    if (answer == 1) {
+    if (answer == accepted(1)) {
         memset(address_in(slot, other), 0, size_of(other));
         slot[FLAGS_AT] &= (uint8_t)~flag_of(other);
     }

@@ -6,7 +6,7 @@ static uint64_t judged(struct step *s)
     uint8_t *slot = find(s);
     uint8_t flags = slot == NULL ? 0 : slot[FLAGS_AT];
     uint64_t answer = ask(s);
-    if (answer == 1)
+    if (answer == accepted(1))
         slot[FLAGS_AT] = flags;
     return answer;
 }

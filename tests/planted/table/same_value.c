@@ -4,7 +4,7 @@
 static uint64_t judged(struct step *s)
 {
     uint64_t answer = ask(s);
-    return answer == 1 ? 0 : answer;
+    return answer == accepted(1) ? accepted(0) : answer;
 }
 
 PLANT_ADD(judged)

@@ -9,7 +9,7 @@ static uint64_t judged(struct step *s)
     if (slot != NULL)
         memcpy(kept, address_in(slot, other), size_of(other));
     answer = ask(s);
-    if (answer == 2)
+    if (answer == accepted(2))
         memcpy(address_in(slot, other), kept, size_of(other));
     return answer;
 }

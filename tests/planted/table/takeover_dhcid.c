@@ -9,7 +9,7 @@ static uint64_t judged(struct step *s)
     if (slot != NULL)
         memcpy(dhcid, slot + DHCID_AT, DHCID);
     answer = ask(s);
-    if (answer == 2)
+    if (answer == accepted(2))
         memcpy(slot + DHCID_AT, dhcid, DHCID);
     return answer;
 }

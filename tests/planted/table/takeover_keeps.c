@@ -11,7 +11,7 @@ static uint64_t judged(struct step *s)
         flag = slot[FLAGS_AT] & flag_of(other);
     }
     answer = ask(s);
-    if (answer == 2) {
+    if (answer == accepted(2)) {
         memcpy(address_in(slot, other), kept, size_of(other));
         slot[FLAGS_AT] |= flag;
     }

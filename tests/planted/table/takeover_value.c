@@ -4,7 +4,7 @@
 static uint64_t judged(struct step *s)
 {
     uint64_t answer = ask(s);
-    return answer == 2 ? 1 : answer;
+    return answer == accepted(2) ? accepted(1) : answer;
 }
 
 PLANT_ADD(judged)

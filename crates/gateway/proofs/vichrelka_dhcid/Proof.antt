@@ -17,7 +17,7 @@ returns : tie.Need-returns
 unfolding Tells
 returns c =
     let put = c .before .before .before .put-dhcid in
-    (put .result, c .for-c .ensures, puts-writes _ _ _ _ _ _ _ (put .ensures))
+    (put .result, c .for-c .ensures .0, c .for-c .ensures .1, puts-writes _ _ _ _ _ _ _ (put .ensures))
 
 pub vichrelka-dhcid-spec : {M : Type 1} → statement M
 vichrelka-dhcid-spec = tie.close (tie.spec put-dhcid-requires for-c-requires same-length returns)

@@ -1,6 +1,4 @@
 use Rattle.base.specs.Answer.{Tells}
-use Rattle.grammar.proofs.ReaderLaws.{checks}
-use Rattle.listing.specs.Reading.{limit, Checks}
 use borrow.Author.Needs.{needs}
 use Rattle.gateway.proofs.vichrelka_listing_check.Statement.{statement}
 use Rattle.gateway.proofs.vichrelka_listing_check.Tie as tie
@@ -12,8 +10,8 @@ for-c-requires : tie.Need-for-c-requires
 for-c-requires c κs = search needs
 
 returns : tie.Need-returns
-unfolding Tells Checks
-returns c = (c .before .check .result, c .for-c .ensures, (_, checks limit _, c .before .check .ensures))
+unfolding Tells
+returns c = (c .before .check .result, c .for-c .ensures .0, c .for-c .ensures .1, c .before .check .ensures)
 
 pub vichrelka-listing-check-spec : {M : Type 1} → statement M
 vichrelka-listing-check-spec = tie.close (tie.spec check-requires for-c-requires returns)

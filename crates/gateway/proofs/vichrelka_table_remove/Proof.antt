@@ -16,7 +16,7 @@ returns : tie.Need-returns
 unfolding Tells
 returns c =
     let step = c .before .before .before .remove in
-    (step .result, c .for-c .ensures, step .ensures)
+    (step .result, c .for-c .ensures .0, c .for-c .ensures .1, step .ensures)
 
 pub vichrelka-table-remove-spec : {M : Type 1} → statement M
 vichrelka-table-remove-spec = tie.close (tie.spec remove-requires for-c-requires same-length returns)
