@@ -10,26 +10,15 @@ use borrow.Author.Tests.{eqb-true, eq-eqb}
 use Rattle.base.specs.Bytes.{eqBytes}
 use Rattle.base.proofs.Tests.{and-left, and-right, eqBytes-true, eq-eqBytes}
 use Rattle.grammar.specs.Listing.{RecordType, ResourceRecord}
-use Rattle.entry.specs.Held.{number}
+use Rattle.entry.specs.Held.{typeNumber}
+use Rattle.entry.proofs.HeldLaws.{one-type}
 use Rattle.records.specs.Gathered.{isOf, dataOf}
 
 -- ---- the type by its number
 
--- two types with one number are the same
-pub one-type : (j k : RecordType) → number j ≡ number k → j ≡ k
-one-type RecordType.A RecordType.A e = refl
-one-type RecordType.A RecordType.AAAA e = absurd (omega arith)
-one-type RecordType.A RecordType.DHCID e = absurd (omega arith)
-one-type RecordType.AAAA RecordType.A e = absurd (omega arith)
-one-type RecordType.AAAA RecordType.AAAA e = refl
-one-type RecordType.AAAA RecordType.DHCID e = absurd (omega arith)
-one-type RecordType.DHCID RecordType.A e = absurd (omega arith)
-one-type RecordType.DHCID RecordType.AAAA e = absurd (omega arith)
-one-type RecordType.DHCID RecordType.DHCID e = refl
-
--- and two with other numbers are not
-pub apart-types : (j k : RecordType) → eqb (number j) (number k) ≡ false → j ≡ k → ⊥
-apart-types j k h e = true≢false (sym (eq-eqb (number j) (number k) (ap number e)) ∙ h)
+-- two with other numbers are not the same; two with one number are (entry, one-type)
+pub apart-types : (j k : RecordType) → eqb (typeNumber j) (typeNumber k) ≡ false → j ≡ k → ⊥
+apart-types j k h e = true≢false (sym (eq-eqb (typeNumber j) (typeNumber k) (ap typeNumber e)) ∙ h)
 
 -- ---- the test of one record
 
@@ -38,14 +27,14 @@ module _ (n : List ℕ) (k : RecordType) (r : ResourceRecord) where
   pub is-of : isOf n k r ≡ true → (r .owner ≡ n) × (r .rtype ≡ k)
   unfolding isOf
   is-of t =
-      let owner = and-left (eqBytes (r .owner) n) (eqb (number (r .rtype)) (number k)) t in
-      let type = and-right (eqBytes (r .owner) n) (eqb (number (r .rtype)) (number k)) t in
-      (eqBytes-true (r .owner) n owner, one-type (r .rtype) k (eqb-true (number (r .rtype)) (number k) type))
+      let owner = and-left (eqBytes (r .owner) n) (eqb (typeNumber (r .rtype)) (typeNumber k)) t in
+      let type = and-right (eqBytes (r .owner) n) (eqb (typeNumber (r .rtype)) (typeNumber k)) t in
+      (eqBytes-true (r .owner) n owner, one-type (r .rtype) k (eqb-true (typeNumber (r .rtype)) (typeNumber k) type))
 
   -- and a record that has them passes
   pub of-is : r .owner ≡ n → r .rtype ≡ k → isOf n k r ≡ true
   unfolding isOf
-  of-is owner type = ap₂ _&&_ (eq-eqBytes (r .owner) n owner) (eq-eqb (number (r .rtype)) (number k) (ap number type))
+  of-is owner type = ap₂ _&&_ (eq-eqBytes (r .owner) n owner) (eq-eqb (typeNumber (r .rtype)) (typeNumber k) (ap typeNumber type))
 
   -- so one with another owner, or of another type, does not
   not-of : ((r .owner ≡ n) × (r .rtype ≡ k) → ⊥) → isOf n k r ≡ false

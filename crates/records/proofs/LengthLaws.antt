@@ -8,8 +8,9 @@ use lib.ListN.{length, length-append}
 use Rattle.base.specs.Logic.{Every, IfSome}
 use Rattle.name.proofs.WireLaws.{proper-short}
 use Rattle.grammar.specs.Listing.{RecordType, ResourceRecord}
+use Rattle.grammar.specs.Whole.{rdataSize}
 use Rattle.writer.specs.Line.{line, lines}
-use Rattle.writer.proofs.LineLaws.{rdataSize, longestLine, line-most, lines-append}
+use Rattle.writer.proofs.LineLaws.{longestLine, line-most, lines-append}
 use Rattle.slots.specs.Form.{TableEntry, WellFormed}
 use Rattle.slots.proofs.LaidLaws.{holder-length}
 use Rattle.records.specs.Written.{recordIf, entryRecords, tableRecords, listingOf}

@@ -17,7 +17,8 @@ use Rattle.grammar.specs.Faults.{WordFault, Faulty}
 use Rattle.grammar.specs.Outcome.{Outcome, accepted, refused, Checked}
 use Rattle.grammar.proofs.Theorems.{some-check, one-check}
 use Rattle.writer.proofs.Theorems.{spelled-well-formed}
-use Rattle.slots.specs.Form.{slotSize, tableBytes, IsTable, Sound}
+use Rattle.slots.specs.Form.{tableBytes, IsTable, Sound}
+use Rattle.slots.specs.Sizes.{slotSize}
 use Rattle.slots.proofs.TableLaws.{length-table}
 use Rattle.records.specs.Gathered.{Single, tableOf}
 use Rattle.records.specs.Calls.{loadTests, Loads}

@@ -32,7 +32,7 @@ named-later r rs n h =
     let k = h .owns .0 in
     record { proper = h .proper; lower = h .lower; owns = (k, omega (arith, h .owns .1, length-data-append n k (r ∷ []) rs)) }
 
-owners-named : (rs : List ResourceRecord) → Every Line.WellFormed rs → Every (Named rs) (owners rs)
+owners-named : (rs : List ResourceRecord) → Every Line.WellFormedRecord rs → Every (Named rs) (owners rs)
 owners-named [] h = subst (Every (Named [])) (sym owners-none) Every.none
 owners-named (r ∷ rs) (Every.more w h) =
     subst (Every (Named (r ∷ rs))) (sym (owners-more r rs))
@@ -48,7 +48,7 @@ module _ (n : List ℕ) (k : RecordType) where
   by-kind r rs false e w h = subst (Every (RdataOf k)) (sym (data-other n k r rs e)) h
 
   -- what the records have of a type is data of that type
-  data-fit : (rs : List ResourceRecord) → Every Line.WellFormed rs → Every (RdataOf k) (dataOf n k rs)
+  data-fit : (rs : List ResourceRecord) → Every Line.WellFormedRecord rs → Every (RdataOf k) (dataOf n k rs)
   data-fit [] h = subst (Every (RdataOf k)) (sym (data-none n k)) Every.none
   data-fit (r ∷ rs) (Every.more w h) = by-kind r rs (isOf n k r) refl (w .rdata) (data-fit rs h)
 
@@ -72,7 +72,7 @@ some-flag rs n (RecordType.DHCID, h) = omega (arith, first-flag 4 (dataOf n Reco
 pub table-distinct : (rs : List ResourceRecord) → Distinct (names (tableOf rs))
 table-distinct rs = subst Distinct (sym (table-names rs)) (owners-distinct rs)
 
-module _ (rs : List ResourceRecord) (h : Every Line.WellFormed rs) where
+module _ (rs : List ResourceRecord) (h : Every Line.WellFormedRecord rs) where
   gathered-well-formed : (n : List ℕ) → Named rs n → WellFormed (gathered rs n)
   unfolding gathered RdataOf
   gathered-well-formed n w =

@@ -9,13 +9,14 @@ use Rattle.base.specs.Logic.{Every}
 use Rattle.base.specs.declared.Answer.{Answer}
 use Rattle.base.specs.declared.Answer.the-variants.{Accepted, Refused}
 use Rattle.grammar.specs.Listing.{RecordType, ResourceRecord, Spells}
-use Rattle.slots.specs.Form.{slotSize, Sound}
+use Rattle.slots.specs.Form.{Sound}
+use Rattle.slots.specs.Sizes.{slotSize}
 use Rattle.records.specs.Written.{tableRecords, listingOf}
 use Rattle.records.specs.Gathered.{dataOf, owners, tableOf}
 use Rattle.records.specs.Calls.{Writes, Loads}
 use Rattle.records.proofs.WrittenLaws.{listing-spells}
 use Rattle.records.proofs.LengthLaws.{listing-most}
-use Rattle.records.proofs.WritingLaws.{one-writing, unwritten, room-accepts, was-written}
+use Rattle.records.proofs.WritingLaws.{one-writing, unwritten, room-accepts, written-sound, was-written}
 use Rattle.records.proofs.LoadingLaws.{one-loading, unloaded, filled}
 use Rattle.records.proofs.TripLaws.{round-trip, loaded-is, written-back}
 
@@ -41,6 +42,10 @@ module _ (places : ℕ) (b : List ℕ) where
   -- a sound table is written to every output that is long enough
   pub enough-room : (s : Sound places b) (out : List ℕ) (r : Answer) (left : List ℕ) → length (listingOf (s .table)) ≤ length out → Writes places b out r left → number r ≡ 0
   enough-room s out r left fits w = room-accepts places b out s fits w
+
+  -- only a sound table is written
+  pub sound-write : (out : List ℕ) (r : Answer) (left : List ℕ) → Writes places b out r left → number r ≡ 0 → Sound places b
+  sound-write out r left w done = written-sound places b out w done
 
   -- an accepted write has written that listing, and answers its length
   pub accepted-write : (s : Sound places b) (out : List ℕ) (r : Answer) (left : List ℕ) → Writes places b out r left → number r ≡ 0
@@ -72,11 +77,11 @@ module _ (limit places : ℕ) (t area : List ℕ) where
 
 -- ---- one after the other
 
--- demand 2: every sound table, written to an output that is long enough and read again, is the same table, byte for byte; and the bytes behind it stay as they were
+-- demand 2: every table that was written, which is a sound one, and read again is the same table, byte for byte; and the bytes behind it stay as they were
 pub same-table : (limit places : ℕ) (b out : List ℕ) (r : Answer) (left area : List ℕ) (q : Answer) (after : List ℕ) → Every (λ x. x < 256) b → 883 * places ≤ limit
-    → (s : Sound places b) → length (listingOf (s .table)) ≤ length out → Writes places b out r left → Loads limit places (take (value r) left) area q after → slotSize * places ≤ length area
+    → Writes places b out r left → number r ≡ 0 → Loads limit places (take (value r) left) area q after → slotSize * places ≤ length area
     → (q ≡ Accepted 0) × (take (slotSize * places) after ≡ b) × (drop (slotSize * places) after ≡ drop (slotSize * places) area)
-same-table limit places b out r left area q after bytes room s enough w l fits = round-trip places b s bytes limit room w (room-accepts places b out s enough w) fits l
+same-table limit places b out r left area q after bytes room w done l fits = round-trip places b (written-sound places b out w done) bytes limit room w done fits l
 
 -- the other way round: a listing that is loaded and written again spells the same names in the same order, each with the same data of each type
 pub same-records : (limit places : ℕ) (t area : List ℕ) (q : Answer) (left out : List ℕ) (r : Answer) (after : List ℕ) (rs : List ResourceRecord) → Every (λ x. x < 256) left → Spells t rs

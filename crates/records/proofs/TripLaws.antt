@@ -14,7 +14,8 @@ use Rattle.base.specs.declared.Answer.the-variants.{Accepted}
 use Rattle.grammar.specs.Listing.{RecordType, ResourceRecord, Spells}
 use Rattle.grammar.specs.Outcome.{accepted, Checked}
 use Rattle.grammar.proofs.Theorems.{one-list}
-use Rattle.slots.specs.Form.{slotSize, tableBytes, Sound}
+use Rattle.slots.specs.Form.{tableBytes, Sound}
+use Rattle.slots.specs.Sizes.{slotSize}
 use Rattle.slots.proofs.Theorems.{one-sound-table, table-length}
 use Rattle.records.specs.Written.{tableRecords, listingOf}
 use Rattle.records.specs.Gathered.{dataOf, Single, owners, tableOf}

@@ -46,6 +46,12 @@ module _ (places : ℕ) (b out : List ℕ) where
     room-accepts s fits (Writes.short k j a e) = absurd (omega (arith, ap length (same-listing k s)))
     room-accepts s fits (Writes.written k j a e) = ap number a
 
+    -- what was accepted is sound
+    pub written-sound : Writes places b out r left → number r ≡ 0 → Sound places b
+    written-sound (Writes.not-sound f a e) h = absurd (omega (arith, ap number a))
+    written-sound (Writes.short k j a e) h = k
+    written-sound (Writes.written k j a e) h = k
+
     -- what was answered and written, where it was accepted
     pub was-written : (s : Sound places b) → Writes places b out r left → number r ≡ 0 → (r ≡ Accepted (length (listingOf (s .table)))) × (left ≡ overlay out 0 (listingOf (s .table)))
     was-written s (Writes.not-sound f a e) h = absurd (f s)

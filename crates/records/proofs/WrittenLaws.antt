@@ -4,14 +4,16 @@ use mathlib.Core.Path.{_≡_, subst}
 use mathlib.Core.List.{List, [], _∷_, _++_}
 use mathlib.Core.Option.{Option, none, some}
 use lib.ListN.{length, replicate}
+use Rattle.base.specs.Bytes.{padded}
 use Rattle.base.specs.Logic.{Every, IfSome}
 use Rattle.base.proofs.Lists.{every-append, every-left, every-right}
-use Rattle.name.specs.Name.{Proper, canonical, padded}
+use Rattle.name.specs.Name.{Proper, canonical}
 use Rattle.grammar.specs.Listing.{RecordType, Spells}
 use Rattle.writer.specs.Line
 use Rattle.writer.specs.Line.{RdataOf}
 use Rattle.writer.proofs.Theorems.{lines-spell}
-use Rattle.slots.specs.Form.{TableEntry, field, flags, slotBytes, WellFormed, slotSize, usedSlots, tableBytes, IsTable}
+use Rattle.slots.specs.Form.{TableEntry, field, flags, slotBytes, WellFormed, usedSlots, tableBytes, IsTable}
+use Rattle.slots.specs.Sizes.{slotSize}
 use Rattle.records.specs.Written.{recordIf, entryRecords, tableRecords, listingOf}
 
 -- ---- the bytes of each part
@@ -55,11 +57,11 @@ table-bytes places t h = used-bytes t (every-left (usedSlots t) (replicate (slot
 -- ---- the records
 
 module _ (n : List ℕ) (proper : Proper n) (lower : canonical n ≡ n) (k : RecordType) where
-  field-well-formed : (o : Option (List ℕ)) → IfSome (RdataOf k) o → IfSome Bytes o → Every Line.WellFormed (recordIf n k o)
+  field-well-formed : (o : Option (List ℕ)) → IfSome (RdataOf k) o → IfSome Bytes o → Every Line.WellFormedRecord (recordIf n k o)
   field-well-formed none h b = Every.none
   field-well-formed (some x) h b = Every.more (record { proper = proper; canonical-owner = lower; bytes = b; rdata = h }) Every.none
 
-entry-well-formed : (e : TableEntry) → WellFormed e → EntryBytes e → Every Line.WellFormed (entryRecords e)
+entry-well-formed : (e : TableEntry) → WellFormed e → EntryBytes e → Every Line.WellFormedRecord (entryRecords e)
 unfolding entryRecords RdataOf
 entry-well-formed e w b =
     every-append _ _
@@ -67,7 +69,7 @@ entry-well-formed e w b =
     (field-well-formed (e .name) (w .proper) (w .lower) RecordType.AAAA (e .aaaa) (w .aaaa) (b .aaaa)))
     (field-well-formed (e .name) (w .proper) (w .lower) RecordType.DHCID (e .holder) (w .dhcid) (b .dhcid))
 
-all-well-formed : (t : List TableEntry) → Every WellFormed t → Every EntryBytes t → Every Line.WellFormed (tableRecords t)
+all-well-formed : (t : List TableEntry) → Every WellFormed t → Every EntryBytes t → Every Line.WellFormedRecord (tableRecords t)
 unfolding tableRecords
 all-well-formed [] h b = Every.none
 all-well-formed (e ∷ t) (Every.more w h) (Every.more c b) = every-append (entryRecords e) (tableRecords t) (entry-well-formed e w c) (all-well-formed t h b)
@@ -75,7 +77,7 @@ all-well-formed (e ∷ t) (Every.more w h) (Every.more c b) = every-append (entr
 -- ---- the table
 
 module _ (places : ℕ) (t : List TableEntry) (b : List ℕ) (table : IsTable places t b) (bytes : Every (λ x. x < 256) b) where
-  pub records-well-formed : Every Line.WellFormed (tableRecords t)
+  pub records-well-formed : Every Line.WellFormedRecord (tableRecords t)
   records-well-formed = all-well-formed t (table .each) (table-bytes places t (subst Bytes (table .form) bytes))
 
   pub listing-spells : Spells (listingOf t) (tableRecords t)

@@ -11,7 +11,8 @@ use Rattle.base.specs.declared.Answer.{Answer}
 use Rattle.base.specs.declared.Answer.the-variants.{Accepted, Refused}
 use Rattle.grammar.specs.Listing.{ResourceRecord}
 use Rattle.grammar.specs.Outcome.{accepted, refused, Checked}
-use Rattle.slots.specs.Form.{slotSize, tableBytes, Sound}
+use Rattle.slots.specs.Form.{tableBytes, Sound}
+use Rattle.slots.specs.Sizes.{slotSize}
 use Rattle.records.specs.Written.{listingOf}
 use Rattle.records.specs.Gathered.{Single, owners, tableOf}
 

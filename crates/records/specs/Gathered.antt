@@ -8,14 +8,14 @@ use lib.ListN.{length}
 use Rattle.base.specs.Bytes.{eqBytes}
 use Rattle.base.specs.Logic.{firstOf}
 use Rattle.grammar.specs.Listing.{RecordType, ResourceRecord}
-use Rattle.entry.specs.Held.{number}
+use Rattle.entry.specs.Held.{typeNumber}
 use Rattle.slots.specs.Form.{TableEntry}
 
 -- ---- the records of one name
 
 -- the record r has the owner n and the type k
 unfoldable pub isOf : List ℕ → RecordType → ResourceRecord → Bool
-isOf n k r = eqBytes (r .owner) n && eqb (number (r .rtype)) (number k)
+isOf n k r = eqBytes (r .owner) n && eqb (typeNumber (r .rtype)) (typeNumber k)
 
 -- the data of all records that the name n has of the type k, in order
 unfoldable pub dataOf : List ℕ → RecordType → List ResourceRecord → List (List ℕ)

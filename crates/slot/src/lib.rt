@@ -13,26 +13,36 @@ ghost use lib.ListN.{length, take, drop};
 ghost use Rattle.base.specs.Bytes.{eqBytes};
 ghost use Rattle.base.specs.Logic.{Decides};
 ghost use Rattle.slots.specs.Entry.{addressOf, addressSize};
-ghost use Rattle.slots.specs.Fields.{inField, there, fieldAt, fieldBit};
+ghost use Rattle.slots.specs.Fields.{inField, there};
 ghost use Rattle.slots.specs.Form.{IsSlot};
-ghost use Rattle.slots.specs.Promise.{OfSlot, bitOf, offsetOf, holding, isAddress};
+ghost use Rattle.slots.specs.Promise.{OfSlot, holding, isAddress};
 ghost use Rattle.slots.specs.Promise as spec;
 ghost use Rattle.slots.specs.SlotTests as tests;
+ghost use Rattle.slots.specs.Sizes.{fieldSize, fieldAt, fieldBit, addressType, bodySize};
 
-pub const SIZE: usize = 312;
+// How many bytes the three fields have.
+const A_SIZE: usize = 4;
 
-// Where the fields stand; the name's length is at 0.
+const AAAA_SIZE: usize = 16;
+
+const DHCID_SIZE: usize = 35;
+
+// Where the parts stand; the name's length is at 0.
 pub const NAME: usize = 1;
 
 pub const FLAGS: usize = 256;
 
-const A: usize = 257;
+const A: usize = FLAGS + 1;
 
-const AAAA: usize = 261;
+const AAAA: usize = A + A_SIZE;
 
-pub const DHCID: usize = 277;
+pub const DHCID: usize = AAAA + AAAA_SIZE;
 
-const DHCID_SIZE: usize = 35;
+// The six parts of a slot.
+const BODY: usize = DHCID + DHCID_SIZE;
+
+// The step from slot to slot: a slot has no other parts.
+pub const SIZE: usize = BODY;
 
 // The flags of the three.
 const HAS_A: u8 = 1;
@@ -41,7 +51,7 @@ const HAS_AAAA: u8 = 2;
 
 pub const HAS_DHCID: u8 = 4;
 
-const ALL: u8 = 7;
+const ALL: u8 = HAS_A + HAS_AAAA + HAS_DHCID;
 
 // Is this flag, of the value 1, 2 or 4, set?
 pub fn is_set(bit: u8, flags: u8) -> bool
@@ -71,7 +81,7 @@ fn is_held_name(name: &[u8]) -> bool
 
 // Do the flags and the fields agree?
 fn are_fields(slot: &[u8]) -> bool
-    requires { ⌜ length (now slot) ≡ 312 ⌝ }
+    requires { ⌜ length (now slot) ≡ bodySize ⌝ }
     ensures { λ r. ⌜ Decides r (tests.FieldsIn (now (slot .entry))) ⌝ }
 {
     let flags = slot[FLAGS];
@@ -87,7 +97,7 @@ fn are_fields(slot: &[u8]) -> bool
     if !is_zero_unless_set(HAS_AAAA, flags, &slot[AAAA..DHCID]) {
         return false;
     }
-    let dhcid = &slot[DHCID..SIZE];
+    let dhcid = &slot[DHCID..BODY];
     if is_set(HAS_DHCID, flags) {
         return is_well_formed(dhcid);
     }
@@ -96,7 +106,7 @@ fn are_fields(slot: &[u8]) -> bool
 
 // Is this the slot of an entry that a sound table can have?
 pub fn is_slot(slot: &[u8]) -> bool
-    requires { ⌜ length (now slot) ≡ 312 ⌝ }
+    requires { ⌜ length (now slot) ≡ bodySize ⌝ }
     ensures { λ r. ⌜ Decides r (IsSlot (now (slot .entry))) ⌝ }
 {
     let end = NAME + slot[0] as usize;
@@ -118,7 +128,7 @@ pub fn holding(slot: &[u8], dhcid: &[u8]) -> Holding
     if !is_set(HAS_DHCID, slot[FLAGS]) {
         return Holding::ByHand;
     }
-    if same(&slot[DHCID..SIZE], dhcid) {
+    if same(&slot[DHCID..BODY], dhcid) {
         Holding::ByThis
     } else {
         Holding::ByAnother
@@ -130,11 +140,12 @@ pub fn has_address(slot: &[u8], family: Family, address: &[u8]) -> bool
     requires { ⌜ IsSlot (now slot) ⌝ }
     ensures { λ r. ⌜ OfSlot (now (slot .entry)) (λ e. r ≡ isAddress (addressOf family e) (now (address .entry))) ⌝ }
 {
-    if !is_set(bit(family), slot[FLAGS]) {
+    let rtype = address_type(family);
+    if !is_set(field_bit(rtype), slot[FLAGS]) {
         return false;
     }
-    let at = offset(family);
-    let end = at + address_size(family);
+    let at = field_offset(rtype);
+    let end = at + field_size(rtype);
     same(&slot[at..end], address)
 }
 
@@ -160,27 +171,17 @@ pub fn data_from(slot: &[u8], rtype: Rtype) -> &[u8]
     requires { ⌜ IsSlot (now slot) ⌝ }
     ensures { λ r. ⌜ now r ≡ take 35 (drop (fieldAt rtype) (now (slot .entry))) ⌝ }
 {
-    let at = field_offset(rtype);
-    &slot[at..at + DHCID_SIZE]
+    let from = field_offset(rtype);
+    &slot[from..from + DHCID_SIZE]
 }
 
-// A family's flag.
-pub fn bit(family: Family) -> u8
-    ensures { λ r. ⌜ r ≡ bitOf family ⌝ }
+// The type of the record that has a family's address.
+pub fn address_type(family: Family) -> Rtype
+    ensures { λ r. ⌜ r ≡ addressType family ⌝ }
 {
     match family {
-        Family::V4 => HAS_A,
-        Family::V6 => HAS_AAAA,
-    }
-}
-
-// Where a family's address stands.
-pub fn offset(family: Family) -> usize
-    ensures { λ r. ⌜ r ≡ offsetOf family ⌝ }
-{
-    match family {
-        Family::V4 => A,
-        Family::V6 => AAAA,
+        Family::V4 => Rtype::A,
+        Family::V6 => Rtype::Aaaa,
     }
 }
 
@@ -188,10 +189,7 @@ pub fn offset(family: Family) -> usize
 pub fn address_size(family: Family) -> usize
     ensures { λ r. ⌜ r ≡ addressSize family ⌝ }
 {
-    match family {
-        Family::V4 => 4,
-        Family::V6 => 16,
-    }
+    field_size(address_type(family))
 }
 
 // A type's flag.
@@ -213,5 +211,16 @@ pub fn field_offset(rtype: Rtype) -> usize
         Rtype::A => A,
         Rtype::Aaaa => AAAA,
         Rtype::Dhcid => DHCID,
+    }
+}
+
+// How many bytes a type's data have.
+pub fn field_size(rtype: Rtype) -> usize
+    ensures { λ r. ⌜ r ≡ fieldSize rtype ⌝ }
+{
+    match rtype {
+        Rtype::A => A_SIZE,
+        Rtype::Aaaa => AAAA_SIZE,
+        Rtype::Dhcid => DHCID_SIZE,
     }
 }

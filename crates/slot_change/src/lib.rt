@@ -6,12 +6,11 @@ use slot::DHCID;
 use slot::FLAGS;
 use slot::HAS_DHCID;
 use slot::NAME;
-use slot::address_size;
-use slot::bit;
+use slot::address_type;
 use slot::field_bit;
 use slot::field_offset;
+use slot::field_size;
 use slot::is_set;
-use slot::offset;
 use slots::Family;
 use slots::Rtype;
 ghost use mathlib.Core.Path.{_≡_};
@@ -19,11 +18,12 @@ ghost use Prim.Native.Nat.{_+_, _≤_};
 ghost use lib.ListN.{length, replicate, getD};
 ghost use Rattle.name.specs.Name.{canonical};
 ghost use Rattle.slots.specs.Entry.{addressSize, other};
-ghost use Rattle.slots.specs.Fields.{bare, withField, fieldAt, fieldSize, fieldBit};
+ghost use Rattle.slots.specs.Fields.{bare, withField};
 ghost use Rattle.slots.specs.Form.{IsSlot, slotBytes};
-ghost use Rattle.slots.specs.Promise.{OfSlot, bitOf, offsetOf, fieldPut, fieldCleared};
+ghost use Rattle.slots.specs.Promise.{OfSlot, fieldPut, fieldCleared};
 ghost use Rattle.slots.specs.Promise as spec;
 ghost use Rattle.slots.specs.Effect as effect;
+ghost use Rattle.slots.specs.Sizes.{flagsAt, fieldSize, fieldAt, fieldBit, allFlags, addressType, bodySize};
 
 // The flags with this one set.
 fn with_flag(bit: u8, flags: u8) -> u8
@@ -51,7 +51,7 @@ fn without_flag(bit: u8, flags: u8) -> u8
 
 // Writes a new name, its client and that client's address into an unused slot.
 pub fn enter(slot: &mut [u8], name: &[u8], dhcid: &[u8], family: Family, address: &[u8])
-    requires { ⌜ (now slot ≡ replicate 312 0) × (length (now name) ≤ 255) × (length (now dhcid) ≡ 35) × (length (now address) ≡ addressSize family) ⌝ }
+    requires { ⌜ (now slot ≡ replicate bodySize 0) × (length (now name) ≤ 255) × (length (now dhcid) ≡ 35) × (length (now address) ≡ addressSize family) ⌝ }
     ensures { λ _. ⌜ now (slot .exit) ≡ slotBytes (effect.entered (canonical (now (name .entry))) (now (dhcid .entry)) family (now (address .entry))) ⌝ }
 {
     slot[0] = name.len() as u8;
@@ -96,7 +96,7 @@ pub fn put_record(slot: &mut [u8], rtype: Rtype, bytes: &[u8])
 
 // Writes a new name and one record into an unused slot.
 pub fn enter_record(slot: &mut [u8], name: &[u8], rtype: Rtype, bytes: &[u8])
-    requires { ⌜ (now slot ≡ replicate 312 0) × (length (now name) ≤ 255) × (length (now bytes) ≡ fieldSize rtype) ⌝ }
+    requires { ⌜ (now slot ≡ replicate bodySize 0) × (length (now name) ≤ 255) × (length (now bytes) ≡ fieldSize rtype) ⌝ }
     ensures { λ _. ⌜ now (slot .exit) ≡ slotBytes (withField rtype (now (bytes .entry)) (bare (canonical (now (name .entry))))) ⌝ }
 {
     slot[0] = name.len() as u8;
@@ -106,7 +106,7 @@ pub fn enter_record(slot: &mut [u8], name: &[u8], rtype: Rtype, bytes: &[u8])
 
 // Writes the data of a record of this type and sets its flag, in a slot that may have no flag yet.
 fn put_data(slot: &mut [u8], rtype: Rtype, bytes: &[u8])
-    requires { ⌜ (length (now slot) ≡ 312) × (getD (now slot) 256 0 ≤ 7) × (length (now bytes) ≡ fieldSize rtype) ⌝ }
+    requires { ⌜ (length (now slot) ≡ bodySize) × (getD (now slot) flagsAt 0 ≤ allFlags) × (length (now bytes) ≡ fieldSize rtype) ⌝ }
     ensures { λ _. ⌜ now (slot .exit) ≡ fieldPut (now (slot .entry)) (fieldBit rtype) (fieldAt rtype) (now (bytes .entry)) ⌝ }
 {
     put_field(slot, field_bit(rtype), field_offset(rtype), bytes);
@@ -114,23 +114,29 @@ fn put_data(slot: &mut [u8], rtype: Rtype, bytes: &[u8])
 
 // Writes an address of this family and sets its flag.
 fn put_address(slot: &mut [u8], family: Family, address: &[u8])
-    requires { ⌜ (length (now slot) ≡ 312) × (getD (now slot) 256 0 ≤ 7) × (length (now address) ≡ addressSize family) ⌝ }
-    ensures { λ _. ⌜ now (slot .exit) ≡ fieldPut (now (slot .entry)) (bitOf family) (offsetOf family) (now (address .entry)) ⌝ }
+    requires { ⌜ (length (now slot) ≡ bodySize) × (getD (now slot) flagsAt 0 ≤ allFlags) × (length (now address) ≡ addressSize family) ⌝ }
+    ensures { λ _. ⌜ now (slot .exit) ≡ fieldPut (now (slot .entry)) (fieldBit (addressType family)) (fieldAt (addressType family)) (now (address .entry)) ⌝ }
 {
-    put_field(slot, bit(family), offset(family), address);
+    put_data(slot, address_type(family), address);
 }
 
 // Zeros in the place of this family's address, and its flag not set.
 fn clear_address(slot: &mut [u8], family: Family)
-    requires { ⌜ length (now slot) ≡ 312 ⌝ }
-    ensures { λ _. ⌜ now (slot .exit) ≡ fieldCleared (now (slot .entry)) (bitOf family) (offsetOf family) (addressSize family) ⌝ }
+    requires { ⌜ length (now slot) ≡ bodySize ⌝ }
+    ensures { λ _. ⌜ now (slot .exit) ≡ fieldCleared (now (slot .entry)) (fieldBit (addressType family)) (fieldAt (addressType family)) (addressSize family) ⌝ }
 {
-    clear_field(slot, bit(family), offset(family), address_size(family));
+    let rtype = address_type(family);
+    clear_field(
+        slot,
+        field_bit(rtype),
+        field_offset(rtype),
+        field_size(rtype),
+    );
 }
 
 // Writes a field and sets its flag, be it set already or not.
 fn put_field(slot: &mut [u8], bit: u8, at: usize, bytes: &[u8])
-    requires { ⌜ (length (now slot) ≡ 312) × (at + length (now bytes) ≤ 312) × (1 ≤ bit) × (getD (now slot) 256 0 + bit ≤ 255) ⌝ }
+    requires { ⌜ (length (now slot) ≡ bodySize) × (at + length (now bytes) ≤ bodySize) × (1 ≤ bit) × (getD (now slot) flagsAt 0 + bit ≤ 255) ⌝ }
     ensures { λ _. ⌜ now (slot .exit) ≡ fieldPut (now (slot .entry)) bit at (now (bytes .entry)) ⌝ }
 {
     slot[FLAGS] = with_flag(bit, slot[FLAGS]);
@@ -139,7 +145,7 @@ fn put_field(slot: &mut [u8], bit: u8, at: usize, bytes: &[u8])
 
 // Zeros in the place of a field, and its flag not set: what is absent is zeros.
 fn clear_field(slot: &mut [u8], bit: u8, at: usize, size: usize)
-    requires { ⌜ (length (now slot) ≡ 312) × (at + size ≤ 312) × (1 ≤ bit) ⌝ }
+    requires { ⌜ (length (now slot) ≡ bodySize) × (at + size ≤ bodySize) × (1 ≤ bit) ⌝ }
     ensures { λ _. ⌜ now (slot .exit) ≡ fieldCleared (now (slot .entry)) bit at size ⌝ }
 {
     slot[FLAGS] = without_flag(bit, slot[FLAGS]);

@@ -14,16 +14,20 @@ ghost use Rattle.name.specs.Name.{canonical};
 ghost use Rattle.slots.specs.Entry.{names, position, Distinct};
 ghost use Rattle.slots.specs.Form.{TableEntry, Sound, tableBytes};
 ghost use Rattle.slots.specs.Promise.{Entries, OfTable, nameAt, closedUp};
+ghost use Rattle.slots.specs.Sizes.{mostNames, slotSize, tableSize};
 
 // How many slots there are, and their bytes.
 pub const SLOTS: usize = 64;
 
-pub const SIZE: usize = 19968;
+pub const SIZE: usize = slot::SIZE * SLOTS;
+
+// How many records they hold at most: three to a name.
+pub const RECORDS: usize = 3 * SLOTS;
 
 // Is every slot well formed, with the used ones first? Each byte is looked at a bounded number of times.
 fn are_slots(table: &[u8]) -> bool
-    requires { ⌜ length (now table) ≡ 19968 ⌝ }
-    ensures { λ r. ⌜ Decides r (Entries 64 (now (table .entry))) ⌝ }
+    requires { ⌜ length (now table) ≡ tableSize ⌝ }
+    ensures { λ r. ⌜ Decides r (Entries mostNames (now (table .entry))) ⌝ }
 {
     let mut i: usize = 0;
     while i < SLOTS {
@@ -41,7 +45,7 @@ fn are_slots(table: &[u8]) -> bool
 
 // The name in slot i; no bytes if the slot is unused.
 fn name_at(table: &[u8], i: usize) -> &[u8]
-    requires { ⌜ (length (now table) ≡ 19968) × (i < 64) ⌝ }
+    requires { ⌜ (length (now table) ≡ tableSize) × (i < mostNames) ⌝ }
     ensures { λ r. ⌜ now r ≡ nameAt (now (table .entry)) i ⌝ }
 {
     let at = slot::SIZE * i;
@@ -53,8 +57,8 @@ fn name_at(table: &[u8], i: usize) -> &[u8]
 // The index of the slot that has this name, which may be in any case; of the first unused slot, if none has it, or the number of slots, if all are used.
 // Bytes are compared only with names of the same length, and only up to the first chunk that differs.
 pub fn find(table: &[u8], name: &[u8]) -> usize
-    requires { ⌜ Entries 64 (now table) ⌝ }
-    ensures { λ r. ⌜ OfTable 64 (now (table .entry)) (λ t. r ≡ position (canonical (now (name .entry))) t) ⌝ }
+    requires { ⌜ Entries mostNames (now table) ⌝ }
+    ensures { λ r. ⌜ OfTable mostNames (now (table .entry)) (λ t. r ≡ position (canonical (now (name .entry))) t) ⌝ }
 {
     let mut i: usize = 0;
     while i < SLOTS {
@@ -72,8 +76,8 @@ pub fn find(table: &[u8], name: &[u8]) -> usize
 
 // Does the name in slot i stand in no slot before it?
 fn is_first(table: &[u8], i: usize) -> bool
-    requires { ⌜ (Entries 64 (now table)) × (i < 64) ⌝ }
-    ensures { λ b. ⌜ OfTable 64 (now (table .entry)) (λ t. ((e : TableEntry) (r : List TableEntry) → drop i t ≡ e ∷ r → Decides b (position (e .name) t ≡ i))) ⌝ }
+    requires { ⌜ (Entries mostNames (now table)) × (i < mostNames) ⌝ }
+    ensures { λ b. ⌜ OfTable mostNames (now (table .entry)) (λ t. ((e : TableEntry) (r : List TableEntry) → drop i t ≡ e ∷ r → Decides b (position (e .name) t ≡ i))) ⌝ }
 {
     let name = name_at(table, i);
     let mut j: usize = 0;
@@ -88,8 +92,8 @@ fn is_first(table: &[u8], i: usize) -> bool
 
 // Does no name stand twice? It does not if each stands in no slot before its own.
 fn no_name_twice(table: &[u8]) -> bool
-    requires { ⌜ Entries 64 (now table) ⌝ }
-    ensures { λ r. ⌜ OfTable 64 (now (table .entry)) (λ t. Decides r (Distinct (names t))) ⌝ }
+    requires { ⌜ Entries mostNames (now table) ⌝ }
+    ensures { λ r. ⌜ OfTable mostNames (now (table .entry)) (λ t. Decides r (Distinct (names t))) ⌝ }
 {
     let mut i: usize = 0;
     while i < SLOTS {
@@ -106,7 +110,7 @@ fn no_name_twice(table: &[u8]) -> bool
 
 // Are these the bytes of a sound table?
 pub fn is_sound(table: &[u8]) -> bool
-    ensures { λ r. ⌜ Decides r (Sound 64 (now (table .entry))) ⌝ }
+    ensures { λ r. ⌜ Decides r (Sound mostNames (now (table .entry))) ⌝ }
 {
     if table.len() != SIZE {
         return false;
@@ -119,8 +123,8 @@ pub fn is_sound(table: &[u8]) -> bool
 
 // Moves the bytes behind the slot at `at` up by a slot.
 fn move_up(table: &mut [u8], at: usize)
-    requires { ⌜ at + 312 ≤ length (now table) ⌝ }
-    ensures { λ _. ⌜ now (table .exit) ≡ overlay (now (table .entry)) at (drop (at + 312) (now (table .entry))) ⌝ }
+    requires { ⌜ at + slotSize ≤ length (now table) ⌝ }
+    ensures { λ _. ⌜ now (table .exit) ≡ overlay (now (table .entry)) at (drop (at + slotSize) (now (table .entry))) ⌝ }
 {
     let behind = at + slot::SIZE;
     let count = table.len() - behind;
@@ -133,7 +137,7 @@ fn move_up(table: &mut [u8], at: usize)
 
 // Takes the slot at `at` out: later ones move up, and the last slot is then unused.
 pub fn close_up(table: &mut [u8], at: usize)
-    requires { ⌜ at + 312 ≤ length (now table) ⌝ }
+    requires { ⌜ at + slotSize ≤ length (now table) ⌝ }
     ensures { λ _. ⌜ now (table .exit) ≡ closedUp (now (table .entry)) at ⌝ }
 {
     move_up(table, at);
@@ -143,8 +147,8 @@ pub fn close_up(table: &mut [u8], at: usize)
 
 // Makes the table empty.
 pub fn make_empty(table: &mut [u8])
-    requires { ⌜ length (now table) ≡ 19968 ⌝ }
-    ensures { λ _. ⌜ now (table .exit) ≡ tableBytes 64 [] ⌝ }
+    requires { ⌜ length (now table) ≡ tableSize ⌝ }
+    ensures { λ _. ⌜ now (table .exit) ≡ tableBytes mostNames [] ⌝ }
 {
     put_zeros(table, 0, SIZE);
 }

@@ -9,14 +9,14 @@ use native.Mathlib.Omega.{arith}
 use lib.Dec.{eqb}
 use lib.ListN.{length, take, drop, getD, set, replicate, length-drop, length-replicate, replicate-append-replicate}
 use lib.Seq.{length-take-le, take-take}
-use Rattle.base.specs.Bytes.{overlay, eqBytes}
+use Rattle.base.specs.Bytes.{overlay, eqBytes, padded}
 use Rattle.base.proofs.Bytes.{set-overlay}
 use Rattle.base.proofs.Tests.{by-ltb}
-use Rattle.name.specs.Name.{padded}
 use Rattle.slots.specs.Entry.{addressOf, addressSize, withAddress, withHolder}
-use Rattle.slots.specs.Fields.{bare, there, inField, withField, fieldAt, fieldSize, fieldBit}
+use Rattle.slots.specs.Fields.{bare, there, inField, withField}
 use Rattle.slots.specs.Form.{TableEntry, WellFormed, field, flag, flags, slotBytes, IsSlot}
-use Rattle.slots.specs.Promise.{isSet, flagSet, flagCleared, bitOf, offsetOf, fieldPut, fieldCleared, holding, isAddress}
+use Rattle.slots.specs.Promise.{isSet, flagSet, flagCleared, fieldPut, fieldCleared, holding, isAddress}
+use Rattle.slots.specs.Sizes.{fieldSize, fieldAt, fieldBit, addressType, bodySize}
 use Rattle.slots.specs.declared.Family.{Family}
 use Rattle.slots.specs.declared.Family.the-variants.{V4, V6}
 use Rattle.slots.specs.declared.Holding.the-variants.{ByHand, ByThis, ByAnother}
@@ -41,18 +41,6 @@ module _ (bit rest v : ℕ) where
   flag-cleared-is none h e = ap (λ (t : Bool). cond t (v - bit) v) h ∙ omega arith
   flag-cleared-is (some x) h e = ap (λ (t : Bool). cond t (v - bit) v) h ∙ omega arith
 
-pub bit-some : (f : Family) → 1 ≤ bitOf f
-bit-some V4 = omega arith
-bit-some V6 = omega arith
-
-pub bit-small : (f : Family) → bitOf f ≤ 2
-bit-small V4 = omega arith
-bit-small V6 = omega arith
-
-pub address-fits : (f : Family) → offsetOf f + addressSize f ≤ 277
-address-fits V4 = omega arith
-address-fits V6 = omega arith
-
 pub field-bit-some : (k : Rtype) → 1 ≤ fieldBit k
 field-bit-some A = omega arith
 field-bit-some Aaaa = omega arith
@@ -63,7 +51,7 @@ field-bit-small A = omega arith
 field-bit-small Aaaa = omega arith
 field-bit-small Dhcid = omega arith
 
-pub field-fits : (k : Rtype) → fieldAt k + fieldSize k ≤ 312
+pub field-fits : (k : Rtype) → fieldAt k + fieldSize k ≤ bodySize
 field-fits A = omega arith
 field-fits Aaaa = omega arith
 field-fits Dhcid = omega arith
@@ -77,6 +65,11 @@ pub field-offset-most : (k : Rtype) → fieldAt k ≤ 277
 field-offset-most A = omega arith
 field-offset-most Aaaa = omega arith
 field-offset-most Dhcid = omega arith
+
+-- an address is what the field of its type has
+pub address-in : (f : Family) (k : Rtype) (e : TableEntry) → k ≡ addressType f → inField k e ≡ addressOf f e
+address-in V4 k e is = ap (λ (q : Rtype). inField q e) is
+address-in V6 k e is = ap (λ (q : Rtype). inField q e) is
 
 -- ---- a slot that is being written: it need not have a flag yet
 
@@ -102,7 +95,7 @@ unfolding IsSlot entry-of
 of-slot b (e, w, form) = slot-of w form
 
 module _ {e : TableEntry} {b : List ℕ} (s : SlotOf e b) where
-  pub long : length b ≡ 312
+  pub long : length b ≡ bodySize
   unfolding slotBytes
   long = ap length (s .form) ∙ length-laid (length (e .name)) _ (flags e) _ _ _ (s .sizes)
 
@@ -135,14 +128,6 @@ module _ {e : TableEntry} {b : List ℕ} (s : SlotOf e b) where
 
   pub holder-at : take 35 (drop 277 b) ≡ field 35 (e .holder)
   holder-at = field-at Dhcid
-
-  pub address-flag : (f : Family) → isSet (bitOf f) (getD b 256 0) ≡ there (addressOf f e)
-  address-flag V4 = field-flag A
-  address-flag V6 = field-flag Aaaa
-
-  pub address-at : (f : Family) → take (addressSize f) (drop (offsetOf f) b) ≡ field (addressSize f) (addressOf f e)
-  address-at V4 = field-at A
-  address-at V6 = field-at Aaaa
 
   -- other flags
   flags-by : (g : ℕ → ℕ) (v : ℕ) → g (flags e) ≡ v
@@ -178,14 +163,14 @@ module _ {e : TableEntry} {b : List ℕ} (s : SlotOf e b) where
         form = is ∙ ap (λ (t : List ℕ). overlay t 277 x) (flags-by (flagSet 4) v sum) ∙ write-dhcid (length (e .name)) _ v _ _ _ (s .sizes) x size;
       }
 
-  pub address-put : (f : Family) (x : List ℕ) {b′ : List ℕ} → length x ≡ addressSize f → b′ ≡ fieldPut b (bitOf f) (offsetOf f) x → SlotOf (withAddress f (some x) e) b′
+  pub address-put : (f : Family) (x : List ℕ) {b′ : List ℕ} → length x ≡ addressSize f → b′ ≡ fieldPut b (fieldBit (addressType f)) (fieldAt (addressType f)) x → SlotOf (withAddress f (some x) e) b′
   address-put V4 x size is = field-put A x size is
   address-put V6 x size is = field-put Aaaa x size is
 
   pub holder-put : (d : List ℕ) {b′ : List ℕ} → length d ≡ 35 → b′ ≡ fieldPut b 4 277 d → SlotOf (withHolder d e) b′
   holder-put d size is = field-put Dhcid d size is
 
-  pub address-cleared : (f : Family) {b′ : List ℕ} → b′ ≡ fieldCleared b (bitOf f) (offsetOf f) (addressSize f) → SlotOf (withAddress f none e) b′
+  pub address-cleared : (f : Family) {b′ : List ℕ} → b′ ≡ fieldCleared b (fieldBit (addressType f)) (fieldAt (addressType f)) (addressSize f) → SlotOf (withAddress f none e) b′
   unfolding slotBytes flags fieldCleared
   address-cleared V4 is =
       let v = flags (withAddress V4 none e) in
@@ -207,12 +192,12 @@ module _ {e : TableEntry} {b : List ℕ} (s : SlotOf e b) where
 abbrev zeros : ℕ → List ℕ
 zeros k = replicate k 0
 
-zeros-apart : (k : ℕ) → k ≤ 255 → zeros k ++ (zeros (255 - k) ++ zeros 56) ≡ zeros 311
+zeros-apart : (k : ℕ) → k ≤ 255 → zeros k ++ (zeros (255 - k) ++ zeros 56) ≡ zeros (bodySize - 1)
 zeros-apart k short =
-    let sum : k + (255 - k + 56) ≡ 311 = omega arith in
+    let sum : k + (255 - k + 56) ≡ bodySize - 1 = omega arith in
     ap (λ (t : List ℕ). zeros k ++ t) (replicate-append-replicate (255 - k) 56 0) ∙ replicate-append-replicate k (255 - k + 56) 0 ∙ ap zeros sum
 
-pub named : (b n : List ℕ) (l : ℕ) {b′ : List ℕ} → b ≡ zeros 312 → l ≡ length n → length n ≤ 255 → b′ ≡ overlay (set b 0 l) 1 n → SlotOf (bare n) b′
+pub named : (b n : List ℕ) (l : ℕ) {b′ : List ℕ} → b ≡ zeros bodySize → l ≡ length n → length n ≤ 255 → b′ ≡ overlay (set b 0 l) 1 n → SlotOf (bare n) b′
 unfolding slotBytes flags padded
 named b n l unused size short is =
     let z = zeros (255 - length n) in

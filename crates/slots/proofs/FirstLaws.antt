@@ -11,11 +11,11 @@ use Rattle.slots.specs.Entry.{position}
 use Rattle.slots.specs.Form.{TableEntry, IsTable}
 use Rattle.slots.specs.Promise.{nameAt}
 use Rattle.slots.proofs.NameLaws.{EntryAt, entry-at, Searched, searched-here, searched-more}
-use Rattle.slots.proofs.TableLaws.{Held, held-none, held-some}
+use Rattle.slots.proofs.TableLaws.{UsedAt, held-none, held-some}
 
 module _ (k : ℕ) (t : List TableEntry) (b : List ℕ) (h : IsTable k t b) where
   -- the entry in a used slot
-  entry-there : (j : ℕ) (low : j ≤ length t) → j < length t → Held k t b h j low
+  entry-there : (j : ℕ) (low : j ≤ length t) → j < length t → UsedAt k t b h j low
   entry-there j low within =
       held-some k t b h j low (omega (arith, h .room)) (λ none. omega (arith, ap length (held-none k t b h j low (omega (arith, h .room)) none), length-drop j t))
 
@@ -36,7 +36,7 @@ module _ (k : ℕ) (t : List TableEntry) (b : List ℕ) (h : IsTable k t b) wher
       low : j ≤ length t
       low = omega (arith, at-i .within)
 
-      held : Held k t b h j low
+      held : UsedAt k t b h j low
       held = entry-there j low (omega (arith, at-i .within))
 
       pub stands-before : eqBytes (nameAt b j) (nameAt b i) ≡ true → position (e .name) t ≡ i → ⊥

@@ -7,13 +7,13 @@ use mathlib.Core.Option.{Option, none, some}
 use native.Mathlib.Omega.{arith}
 use lib.ListN.{length, take, drop, getD, replicate, length-append, length-drop, length-replicate, take-append-drop}
 use lib.Seq.{take-at, drop-at, getD-at, drop-cons, drop-drop, take-all, take-take}
-use Rattle.base.specs.Bytes.{overlay}
+use Rattle.base.specs.Bytes.{overlay, padded}
 use Rattle.base.specs.Dhcid.{wellFormed}
 use Rattle.base.specs.Logic.{IfSome}
 use Rattle.base.proofs.DhcidLaws.{dhcid-length}
-use Rattle.name.specs.Name.{padded}
 use Rattle.name.proofs.WireLaws.{proper-short}
 use Rattle.slots.specs.Form.{TableEntry, field, flags, slotBytes, WellFormed}
+use Rattle.slots.specs.Sizes.{bodySize, slotSize}
 
 -- ---- a part in the middle
 
@@ -59,7 +59,7 @@ module _ (l : ℕ) (p : List ℕ) (v : ℕ) (a b d : List ℕ) where
   cut-dhcid = sym (append-nil (laid l p v a b d))
 
 module _ (l : ℕ) (p : List ℕ) (v : ℕ) (a b d : List ℕ) (s : Sizes p a b d) where
-  pub length-laid : length (laid l p v a b d) ≡ 312
+  pub length-laid : length (laid l p v a b d) ≡ bodySize
   length-laid = simp length-append (omega (arith, s .name, s .a, s .aaaa, s .dhcid))
 
   before-a : length (l ∷ p ++ v ∷ []) ≡ 257
@@ -103,7 +103,7 @@ module _ (l : ℕ) (p : List ℕ) (v : ℕ) (a b d : List ℕ) (s : Sizes p a b 
       ∙ append-nil (l ∷ p ++ v ∷ a ++ b ++ x)
 
 -- any 312 bytes are six such parts
-pub as-laid : (s : List ℕ) → length s ≡ 312
+pub as-laid : (s : List ℕ) → length s ≡ bodySize
     → s ≡ laid (getD s 0 0) (take 255 (drop 1 s)) (getD s 256 0) (take 4 (drop 257 s)) (take 16 (drop 261 s)) (take 35 (drop 277 s))
 as-laid s e =
     let last : drop 277 s ≡ take 35 (drop 277 s) = sym (take-all 35 (drop 277 s) (simp length-drop (omega arith))) in
@@ -163,7 +163,7 @@ module _ (e : TableEntry) where
           dhcid = length-field 35 (e .holder) (holder-length (e .holder) (w .dhcid));
         }
 
-    pub length-slot : length (slotBytes e) ≡ 312
+    pub length-slot : length (slotBytes e) ≡ slotSize
     length-slot = ap length slot-laid ∙ length-laid (length (e .name)) (padded (e .name)) (flags e) (field 4 (e .a)) (field 16 (e .aaaa)) (field 35 (e .holder)) slot-sizes
 
     -- the name's length, which is not 0, and the name

@@ -10,6 +10,7 @@ use lib.ListN.{length, take, drop, getD, drop-of-length-le}
 use Rattle.slots.specs.Fields.{there}
 use Rattle.slots.specs.Form.{TableEntry, field, flags, slotBytes, WellFormed, IsTable}
 use Rattle.slots.specs.Promise.{isSet}
+use Rattle.slots.specs.Sizes.{slotSize}
 use Rattle.slots.proofs.FlagLaws.{flag-a, flag-aaaa, flag-dhcid}
 use Rattle.slots.proofs.LaidLaws.{slot-sizes, slot-length, slot-name, flags-of, a-of, aaaa-of, dhcid-of}
 use Rattle.slots.proofs.TableLaws.{unused-from, used-from}
@@ -39,9 +40,9 @@ no-entries t none-left = drop-of-length-le t {i = 0} none-left
 
 pub one-from : (k : ℕ) (t u : List TableEntry) (b : List ℕ) → IsTable k t b → IsTable k u b → t ≡ u
 one-from zero t u b h g = no-entries t (h .room) ∙ sym (no-entries u (g .room))
-one-from (suc k) t u b h g = go (getD b 0 0) refl (λ s r. one-from k s r (drop 312 b))
+one-from (suc k) t u b h g = go (getD b 0 0) refl (λ s r. one-from k s r (drop slotSize b))
   where
-    go : (v : ℕ) → getD b 0 0 ≡ v → ((s r : List TableEntry) → IsTable k s (drop 312 b) → IsTable k r (drop 312 b) → s ≡ r) → t ≡ u
+    go : (v : ℕ) → getD b 0 0 ≡ v → ((s r : List TableEntry) → IsTable k s (drop slotSize b) → IsTable k r (drop slotSize b) → s ≡ r) → t ≡ u
     go zero z below = unused-from (suc k) b z t h .0 ∙ sym (unused-from (suc k) b z u g .0)
     go (suc v) z below =
         let nz : getD b 0 0 ≡ 0 → ⊥ = λ y. suc-ne-zero v (sym z ∙ y) in
@@ -51,5 +52,5 @@ one-from (suc k) t u b h g = go (getD b 0 0) refl (λ s r. one-from k s r (drop 
         let left′ : y .left ≡ k = omega (arith, y .limit) in
         x .order
         ∙ ap₂ _∷_ (one-slot (x .entry) (y .entry) (x .well-formed) (y .well-formed) (sym (x .slot) ∙ y .slot))
-        (below (x .later) (y .later) (subst (λ (n : ℕ). IsTable n (x .later) (drop 312 b)) left (x .rest)) (subst (λ (n : ℕ). IsTable n (y .later) (drop 312 b)) left′ (y .rest)))
+        (below (x .later) (y .later) (subst (λ (n : ℕ). IsTable n (x .later) (drop slotSize b)) left (x .rest)) (subst (λ (n : ℕ). IsTable n (y .later) (drop slotSize b)) left′ (y .rest)))
         ∙ sym (y .order)

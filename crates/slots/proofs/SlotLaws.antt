@@ -9,15 +9,17 @@ use lib.Dec.{eqb}
 use lib.ListN.{length, take, drop, getD, replicate, length-drop, length-replicate}
 use lib.Seq.{take-add, drop-drop, length-take-le}
 use borrow.Author.Tests.{eqb-true}
+use Rattle.base.specs.Bytes.{padded}
 use Rattle.base.specs.Dhcid.{wellFormed}
 use Rattle.base.specs.Logic.{IfSome, Decides}
 use Rattle.base.proofs.Lists.{append-split}
 use Rattle.base.proofs.Tests.{decides-as, below, at-each}
-use Rattle.name.specs.Name.{Proper, canonical, padded}
+use Rattle.name.specs.Name.{Proper, canonical}
 use Rattle.slots.specs.Fields.{there}
 use Rattle.slots.specs.Form.{TableEntry, field, flag, flags, slotBytes, WellFormed, IsSlot}
 use Rattle.slots.specs.Promise.{isSet}
 use Rattle.slots.specs.SlotTests.{HeldName, ZeroUnlessSet, Fields, FieldsIn}
+use Rattle.slots.specs.Sizes.{bodySize}
 use Rattle.slots.proofs.FlagLaws.{flag-a, flag-aaaa, flag-dhcid, flags-most}
 use Rattle.slots.proofs.LaidLaws.{laid, as-laid, slot-laid, slot-sizes, slot-length, slot-name, laid-name, flags-of, a-of, aaaa-of, dhcid-of}
 
@@ -170,11 +172,11 @@ module _ (s : List ℕ) (end : ℕ) (after : end ≡ 1 + getD s 0 0) (byte : end
 
   -- ---- bytes that pass every test are those of an entry
 
-  module _ (size : length s ≡ 312) (held : HeldName (nameIn s end)) (rest : restIn s end ≡ replicate (length (restIn s end)) 0) (f : FieldsIn s) where
+  module _ (size : length s ≡ bodySize) (held : HeldName (nameIn s end)) (rest : restIn s end ≡ replicate (length (restIn s end)) 0) (f : FieldsIn s) where
     found : TableEntry
     found = record { name = nameIn s end; a = given (isSet 1 (flagsIn s)) (aIn s); aaaa = given (isSet 2 (flagsIn s)) (aaaaIn s); holder = given (isSet 4 (flagsIn s)) (dhcidIn s) }
 
-    length-part : (i n : ℕ) → i + n ≤ 312 → length (take n (drop i s)) ≡ n
+    length-part : (i n : ℕ) → i + n ≤ bodySize → length (take n (drop i s)) ≡ n
     length-part i n h = length-take-le n (drop i s) (simp length-drop (omega arith))
 
     found-length : getD s 0 0 ≡ length (found .name)

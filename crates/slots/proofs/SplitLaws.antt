@@ -9,6 +9,7 @@ use Rattle.base.proofs.Bytes.{take-replicate, drop-replicate}
 use Rattle.base.proofs.Lists.{every-middle, every-left}
 use Rattle.slots.specs.Form.{TableEntry, slotBytes, WellFormed, usedSlots, tableBytes, IsTable}
 use Rattle.slots.specs.Promise.{closedUp}
+use Rattle.slots.specs.Sizes.{slotSize}
 use Rattle.slots.proofs.LaidLaws.{length-slot}
 use Rattle.slots.proofs.TableLaws.{table-none, table-more, length-used}
 
@@ -22,30 +23,30 @@ pub table-split : (k : ℕ) (p r : List TableEntry) → tableBytes k (p ++ r) �
 unfolding tableBytes
 table-split k p r =
     let left : k - length (p ++ r) ≡ k - length p - length r = omega (arith, length-append p r) in
-    ap₂ (λ (b : List ℕ) (n : ℕ). b ++ replicate (312 * n) 0) (used-append p r) left
-    ∙ append-assoc (usedSlots p) (usedSlots r) (replicate (312 * (k - length p - length r)) 0)
+    ap₂ (λ (b : List ℕ) (n : ℕ). b ++ replicate (slotSize * n) 0) (used-append p r) left
+    ∙ append-assoc (usedSlots p) (usedSlots r) (replicate (slotSize * (k - length p - length r)) 0)
 
 module _ (k : ℕ) (p r : List TableEntry) (b : List ℕ) (h : IsTable k (p ++ r) b) where
-  front-size : length (usedSlots p) ≡ 312 * length p
+  front-size : length (usedSlots p) ≡ slotSize * length p
   front-size = length-used p (every-left p r (h .each))
 
   cut : b ≡ usedSlots p ++ tableBytes (k - length p) r
   cut = h .form ∙ table-split k p r
 
-  before : take (312 * length p) b ≡ usedSlots p
-  before = ap (take (312 * length p)) cut ∙ take-at (usedSlots p) (tableBytes (k - length p) r) (312 * length p) front-size
+  before : take (slotSize * length p) b ≡ usedSlots p
+  before = ap (take (slotSize * length p)) cut ∙ take-at (usedSlots p) (tableBytes (k - length p) r) (slotSize * length p) front-size
 
-  after : drop (312 * length p) b ≡ tableBytes (k - length p) r
-  after = ap (drop (312 * length p)) cut ∙ drop-at (usedSlots p) (tableBytes (k - length p) r) (312 * length p) front-size
+  after : drop (slotSize * length p) b ≡ tableBytes (k - length p) r
+  after = ap (drop (slotSize * length p)) cut ∙ drop-at (usedSlots p) (tableBytes (k - length p) r) (slotSize * length p) front-size
 
   -- what comes to be: the slots of p, a slot, and what stands behind
-  written : (s : List ℕ) → take (312 * length p) b ++ s ++ drop (312 * length p + 312) b ≡ usedSlots p ++ (s ++ drop 312 (tableBytes (k - length p) r))
+  written : (s : List ℕ) → take (slotSize * length p) b ++ s ++ drop (slotSize * length p + slotSize) b ≡ usedSlots p ++ (s ++ drop slotSize (tableBytes (k - length p) r))
   written s =
-      ap₂ (λ (u v : List ℕ). u ++ s ++ v) before (sym (drop-drop 312 (312 * length p) b) ∙ ap (drop 312) after)
-      ∙ append-assoc (usedSlots p) s (drop 312 (tableBytes (k - length p) r))
+      ap₂ (λ (u v : List ℕ). u ++ s ++ v) before (sym (drop-drop slotSize (slotSize * length p) b) ∙ ap (drop slotSize) after)
+      ∙ append-assoc (usedSlots p) s (drop slotSize (tableBytes (k - length p) r))
 
-  inserted : (e : TableEntry) (q : List TableEntry) → length p < k → drop 312 (tableBytes (k - length p) r) ≡ tableBytes (k - length p - 1) q
-      → take (312 * length p) b ++ slotBytes e ++ drop (312 * length p + 312) b ≡ tableBytes k (p ++ e ∷ q)
+  inserted : (e : TableEntry) (q : List TableEntry) → length p < k → drop slotSize (tableBytes (k - length p) r) ≡ tableBytes (k - length p - 1) q
+      → take (slotSize * length p) b ++ slotBytes e ++ drop (slotSize * length p + slotSize) b ≡ tableBytes k (p ++ e ∷ q)
   inserted e q room rest =
       let less : suc (k - length p - 1) ≡ k - length p = omega arith in
       written (slotBytes e) ∙ ap (λ (v : List ℕ). usedSlots p ++ (slotBytes e ++ v)) rest
@@ -66,29 +67,29 @@ module _ (k : ℕ) (p : List TableEntry) (e : TableEntry) (r : List TableEntry) 
       let less : k - length p ≡ suc (k - length p - 1) = omega (arith, entry-within) in
       ap (λ (n : ℕ). tableBytes n (e ∷ r)) less ∙ table-more (k - length p - 1) e r
 
-  behind-it : drop 312 (tableBytes (k - length p) (e ∷ r)) ≡ tableBytes (k - length p - 1) r
-  behind-it = ap (drop 312) split ∙ drop-at (slotBytes e) (tableBytes (k - length p - 1) r) 312 (length-slot e entry-well-formed)
+  behind-it : drop slotSize (tableBytes (k - length p) (e ∷ r)) ≡ tableBytes (k - length p - 1) r
+  behind-it = ap (drop slotSize) split ∙ drop-at (slotBytes e) (tableBytes (k - length p - 1) r) slotSize (length-slot e entry-well-formed)
 
-  pub slot-there : take 312 (drop (312 * length p) b) ≡ slotBytes e
+  pub slot-there : take slotSize (drop (slotSize * length p) b) ≡ slotBytes e
   slot-there =
-      ap (take 312) (after k p (e ∷ r) b h ∙ split) ∙ take-at (slotBytes e) (tableBytes (k - length p - 1) r) 312 (length-slot e entry-well-formed)
+      ap (take slotSize) (after k p (e ∷ r) b h ∙ split) ∙ take-at (slotBytes e) (tableBytes (k - length p - 1) r) slotSize (length-slot e entry-well-formed)
 
   -- another entry in its place
-  pub replaced : (f : TableEntry) → take (312 * length p) b ++ slotBytes f ++ drop (312 * length p + 312) b ≡ tableBytes k (p ++ f ∷ r)
+  pub replaced : (f : TableEntry) → take (slotSize * length p) b ++ slotBytes f ++ drop (slotSize * length p + slotSize) b ≡ tableBytes k (p ++ f ∷ r)
   replaced f = inserted k p (e ∷ r) b h f r entry-within behind-it
 
   -- none in its place: later ones move up
-  pub taken-out : closedUp b (312 * length p) ≡ tableBytes k (p ++ r)
+  pub taken-out : closedUp b (slotSize * length p) ≡ tableBytes k (p ++ r)
   unfolding closedUp tableBytes
   taken-out =
       let j = k - length p - 1 in
-      let rest : drop (312 * length p + 312) b ≡ usedSlots r ++ replicate (312 * (j - length r)) 0 = sym (drop-drop 312 (312 * length p) b) ∙ ap (drop 312) (after k p (e ∷ r) b h) ∙ behind-it in
-      let more : 312 * (j - length r) + 312 ≡ 312 * (k - length p - length r) = omega (arith, h .room, length-append p (e ∷ r)) in
-      ap₂ (λ (u v : List ℕ). u ++ v ++ replicate 312 0) (before k p (e ∷ r) b h) rest
-      ∙ append-assoc (usedSlots p) (usedSlots r ++ replicate (312 * (j - length r)) 0) (replicate 312 0)
+      let rest : drop (slotSize * length p + slotSize) b ≡ usedSlots r ++ replicate (slotSize * (j - length r)) 0 = sym (drop-drop slotSize (slotSize * length p) b) ∙ ap (drop slotSize) (after k p (e ∷ r) b h) ∙ behind-it in
+      let more : slotSize * (j - length r) + slotSize ≡ slotSize * (k - length p - length r) = omega (arith, h .room, length-append p (e ∷ r)) in
+      ap₂ (λ (u v : List ℕ). u ++ v ++ replicate slotSize 0) (before k p (e ∷ r) b h) rest
+      ∙ append-assoc (usedSlots p) (usedSlots r ++ replicate (slotSize * (j - length r)) 0) (replicate slotSize 0)
       ∙ ap (λ (v : List ℕ). usedSlots p ++ v)
-      (append-assoc (usedSlots r) (replicate (312 * (j - length r)) 0) (replicate 312 0)
-      ∙ ap (λ (v : List ℕ). usedSlots r ++ v) (replicate-append-replicate (312 * (j - length r)) 312 0 ∙ ap (λ (n : ℕ). replicate n 0) more))
+      (append-assoc (usedSlots r) (replicate (slotSize * (j - length r)) 0) (replicate slotSize 0)
+      ∙ ap (λ (v : List ℕ). usedSlots r ++ v) (replicate-append-replicate (slotSize * (j - length r)) slotSize 0 ∙ ap (λ (n : ℕ). replicate n 0) more))
       ∙ sym (table-split k p r)
 
 -- behind the last entry
@@ -96,12 +97,12 @@ module _ (k : ℕ) (t : List TableEntry) (b : List ℕ) (h : IsTable k t b) (roo
   whole : IsTable k (t ++ []) b
   whole = rw append-nil h
 
-  pub unused-there : take 312 (drop (312 * length t) b) ≡ replicate 312 0
+  pub unused-there : take slotSize (drop (slotSize * length t) b) ≡ replicate slotSize 0
   unused-there =
-      ap (take 312) (after k t [] b whole ∙ table-none (k - length t)) ∙ take-replicate 312 (312 * (k - length t)) 0 (omega arith)
+      ap (take slotSize) (after k t [] b whole ∙ table-none (k - length t)) ∙ take-replicate slotSize (slotSize * (k - length t)) 0 (omega arith)
 
-  pub appended : (e : TableEntry) → take (312 * length t) b ++ slotBytes e ++ drop (312 * length t + 312) b ≡ tableBytes k (t ++ e ∷ [])
+  pub appended : (e : TableEntry) → take (slotSize * length t) b ++ slotBytes e ++ drop (slotSize * length t + slotSize) b ≡ tableBytes k (t ++ e ∷ [])
   appended e =
-      let less : 312 * (k - length t) - 312 ≡ 312 * (k - length t - 1) = omega arith in
+      let less : slotSize * (k - length t) - slotSize ≡ slotSize * (k - length t - 1) = omega arith in
       inserted k t [] b whole e [] room
-      (ap (drop 312) (table-none (k - length t)) ∙ drop-replicate 312 (312 * (k - length t)) 0 ∙ ap (λ (n : ℕ). replicate n 0) less ∙ sym (table-none (k - length t - 1)))
+      (ap (drop slotSize) (table-none (k - length t)) ∙ drop-replicate slotSize (slotSize * (k - length t)) 0 ∙ ap (λ (n : ℕ). replicate n 0) less ∙ sym (table-none (k - length t - 1)))

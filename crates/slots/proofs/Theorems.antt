@@ -4,6 +4,7 @@ use mathlib.Core.Path.{_≡_}
 use mathlib.Core.List.{List}
 use lib.ListN.{length}
 use Rattle.slots.specs.Form.{TableEntry, IsTable, Sound}
+use Rattle.slots.specs.Sizes.{slotSize}
 use Rattle.slots.proofs.OneLaws.{one-from}
 use Rattle.slots.proofs.TableLaws.{length-table}
 
@@ -16,5 +17,5 @@ pub one-sound-table : (limit : ℕ) (b : List ℕ) (h k : Sound limit b) → h .
 one-sound-table limit b h k = one-table limit (h .table) (k .table) b (h .slots) (k .slots)
 
 -- every table with room for so many names has so many bytes: a byte string of another length is not sound
-pub table-length : (limit : ℕ) (b : List ℕ) → Sound limit b → length b ≡ 312 * limit
+pub table-length : (limit : ℕ) (b : List ℕ) → Sound limit b → length b ≡ slotSize * limit
 table-length limit b h = length-table limit (h .table) b (h .slots)

@@ -7,6 +7,7 @@ use mathlib.Core.Option.{Option, some}
 use lib.Dec.{eqb}
 use Rattle.base.specs.Bytes.{eqBytes}
 use Rattle.base.specs.Logic.{Every}
+use Rattle.slots.specs.Sizes.{fieldSize, addressType}
 use Rattle.slots.specs.declared.Family.{Family}
 use Rattle.slots.specs.declared.Family.the-variants.{V4, V6}
 
@@ -30,8 +31,7 @@ other V6 = V4
 
 -- the bytes of an address
 abbrev pub addressSize : Family → ℕ
-addressSize V4 = 4
-addressSize V6 = 16
+addressSize f = fieldSize (addressType f)
 
 module _ {H : Type 0} where
   -- an entry's address of a family

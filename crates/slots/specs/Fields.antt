@@ -1,4 +1,4 @@
--- The three fields of a slot that hold a record's data, one for each type.
+-- The three fields of an entry that hold a record's data, one for each type. Their places in a slot are those of Sizes.antt.
 use Prim.Native.Nat.{ℕ}
 use mathlib.Core.Bool.{Bool, true, false}
 use mathlib.Core.List.{List}
@@ -27,19 +27,3 @@ abbrev pub withField : Rtype → List ℕ → TableEntry → TableEntry
 withField A x e = record { name = e .name; a = some x; aaaa = e .aaaa; holder = e .holder }
 withField Aaaa x e = record { name = e .name; a = e .a; aaaa = some x; holder = e .holder }
 withField Dhcid x e = record { name = e .name; a = e .a; aaaa = e .aaaa; holder = some x }
-
--- where in a slot a field begins, how many bytes it has, and its flag
-abbrev pub fieldAt : Rtype → ℕ
-fieldAt A = 257
-fieldAt Aaaa = 261
-fieldAt Dhcid = 277
-
-abbrev pub fieldSize : Rtype → ℕ
-fieldSize A = 4
-fieldSize Aaaa = 16
-fieldSize Dhcid = 35
-
-abbrev pub fieldBit : Rtype → ℕ
-fieldBit A = 1
-fieldBit Aaaa = 2
-fieldBit Dhcid = 4

@@ -1,5 +1,5 @@
 -- The bytes of the table of names, and which bytes are a table's. Document 01, "The table": up to so many names in order of arrival, each with at least one record; sound.
--- The number of names is a parameter; the calls have 64. A slot has 312 bytes: the name's wire length (1), the name (255), flags (1), A (4), AAAA (16), DHCID (35);
+-- The number of names is a parameter; the calls have `mostNames` (Sizes.antt). A slot has the name's wire length, the name in 255 bytes, flags, A, AAAA and DHCID;
 -- what is absent is zeros, and so is an unused slot. Used slots come first.
 use Prim.Native.Nat.{ℕ, _+_, _-_, _*_, _≤_}
 use mathlib.Core.Bool.{true}
@@ -7,10 +7,13 @@ use mathlib.Core.Path.{_≡_}
 use mathlib.Core.List.{List, [], _∷_, _++_}
 use mathlib.Core.Option.{Option, none, some}
 use lib.ListN.{length, replicate}
+use Rattle.base.specs.Bytes.{padded}
 use Rattle.base.specs.Dhcid.{wellFormed}
 use Rattle.base.specs.Logic.{Every, IfSome}
-use Rattle.name.specs.Name.{Proper, canonical, padded}
+use Rattle.name.specs.Name.{Proper, canonical}
 use Rattle.slots.specs.Entry.{Entry, names, Distinct}
+use Rattle.slots.specs.Sizes.{slotSize, fieldSize, fieldBit}
+use Rattle.slots.specs.declared.Rtype.the-variants.{A, Aaaa, Dhcid}
 
 -- ---- one slot
 
@@ -28,20 +31,17 @@ flag bit none = 0
 flag bit (some x) = bit
 
 unfoldable pub flags : TableEntry → ℕ
-flags e = flag 1 (e .a) + flag 2 (e .aaaa) + flag 4 (e .holder)
+flags e = flag (fieldBit A) (e .a) + flag (fieldBit Aaaa) (e .aaaa) + flag (fieldBit Dhcid) (e .holder)
 
 unfoldable pub slotBytes : TableEntry → List ℕ
-slotBytes e = length (e .name) ∷ padded (e .name) ++ flags e ∷ field 4 (e .a) ++ field 16 (e .aaaa) ++ field 35 (e .holder)
-
-abbrev pub slotSize : ℕ
-slotSize = 312
+slotBytes e = length (e .name) ∷ padded (e .name) ++ flags e ∷ field (fieldSize A) (e .a) ++ field (fieldSize Aaaa) (e .aaaa) ++ field (fieldSize Dhcid) (e .holder)
 
 -- an entry that a sound table can have: the name is proper and canonical, addresses have their sizes, the DHCID passes refusal 15's test, and one of the three is there
 pub record WellFormed (e : TableEntry) : Type 0 where
   pub proper : Proper (e .name)
   pub lower : canonical (e .name) ≡ e .name
-  pub a : IfSome (λ x. length x ≡ 4) (e .a)
-  pub aaaa : IfSome (λ x. length x ≡ 16) (e .aaaa)
+  pub a : IfSome (λ x. length x ≡ fieldSize A) (e .a)
+  pub aaaa : IfSome (λ x. length x ≡ fieldSize Aaaa) (e .aaaa)
   pub dhcid : IfSome (λ x. wellFormed x ≡ true) (e .holder)
   pub some : 1 ≤ flags e
 

@@ -1,3 +1,4 @@
+pub mod Sizes
 pub mod Entry
 pub mod Form
 pub mod Effect

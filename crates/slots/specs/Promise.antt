@@ -7,9 +7,8 @@ use mathlib.Core.Option.{Option, none, some}
 use lib.Dec.{eqb}
 use lib.ListN.{take, drop, getD, set, replicate}
 use Rattle.base.specs.Bytes.{overlay, eqBytes}
-use Rattle.slots.specs.Form.{TableEntry, WellFormed, slotSize, slotBytes, IsTable}
-use Rattle.slots.specs.declared.Family.{Family}
-use Rattle.slots.specs.declared.Family.the-variants.{V4, V6}
+use Rattle.slots.specs.Form.{TableEntry, WellFormed, slotBytes, IsTable}
+use Rattle.slots.specs.Sizes.{slotSize, flagsAt}
 use Rattle.slots.specs.declared.Holding.{Holding}
 use Rattle.slots.specs.declared.Holding.the-variants.{ByHand, ByThis, ByAnother}
 
@@ -45,22 +44,13 @@ flagSet bit v = cond (isSet bit v) v (v + bit)
 abbrev pub flagCleared : ℕ → ℕ → ℕ
 flagCleared bit v = cond (isSet bit v) (v - bit) v
 
--- the flag of a family's address, and where in a slot the address stands
-abbrev pub bitOf : Family → ℕ
-bitOf V4 = 1
-bitOf V6 = 2
-
-abbrev pub offsetOf : Family → ℕ
-offsetOf V4 = 257
-offsetOf V6 = 261
-
 -- the slot s with its flag set and the bytes x at index `at`
 unfoldable pub fieldPut : List ℕ → ℕ → ℕ → List ℕ → List ℕ
-fieldPut s bit at x = overlay (set s 256 (flagSet bit (getD s 256 0))) at x
+fieldPut s bit at x = overlay (set s flagsAt (flagSet bit (getD s flagsAt 0))) at x
 
 -- and with the flag not set and that many zeros there
 unfoldable pub fieldCleared : List ℕ → ℕ → ℕ → ℕ → List ℕ
-fieldCleared s bit at size = overlay (set s 256 (flagCleared bit (getD s 256 0))) at (replicate size 0)
+fieldCleared s bit at size = overlay (set s flagsAt (flagCleared bit (getD s flagsAt 0))) at (replicate size 0)
 
 -- who holds a name, seen from the client h: nobody, so that it is kept by hand; that client; or another
 abbrev pub holding : {H : Type 0} → (H → H → Bool) → Option H → H → Holding

@@ -7,6 +7,9 @@ use lib.ListN.{length, take, drop, getD, replicate}
 use Rattle.base.specs.Dhcid.{wellFormed}
 use Rattle.name.specs.Name.{Proper, canonical}
 use Rattle.slots.specs.Promise.{isSet}
+use Rattle.slots.specs.Sizes.{flagsAt, fieldSize, fieldAt, fieldBit, allFlags}
+use Rattle.slots.specs.declared.Rtype.{Rtype}
+use Rattle.slots.specs.declared.Rtype.the-variants.{A, Aaaa, Dhcid}
 
 -- a name as a sound table has it
 pub record HeldName (n : List ℕ) : Type 0 where
@@ -20,12 +23,16 @@ ZeroUnlessSet bit v x = isSet bit v ≡ false → x ≡ replicate (length x) 0
 -- the flags v and the fields A, AAAA and DHCID agree: one flag at least and none but the three, what is absent is zeros, a DHCID passes refusal 15's test
 pub record Fields (v : ℕ) (x y z : List ℕ) : Type 0 where
   pub some : 1 ≤ v
-  pub known : v ≤ 7
-  pub a : ZeroUnlessSet 1 v x
-  pub aaaa : ZeroUnlessSet 2 v y
-  pub dhcid : ZeroUnlessSet 4 v z
-  pub holder : isSet 4 v ≡ true → wellFormed z ≡ true
+  pub known : v ≤ allFlags
+  pub a : ZeroUnlessSet (fieldBit A) v x
+  pub aaaa : ZeroUnlessSet (fieldBit Aaaa) v y
+  pub dhcid : ZeroUnlessSet (fieldBit Dhcid) v z
+  pub holder : isSet (fieldBit Dhcid) v ≡ true → wellFormed z ≡ true
 
--- so they do in the slot s
+-- the bytes that the slot s has in the field of a type
+abbrev pub fieldIn : Rtype → List ℕ → List ℕ
+fieldIn k s = take (fieldSize k) (drop (fieldAt k) s)
+
+-- the flags and the fields of the slot s agree
 abbrev pub FieldsIn : List ℕ → Type 0
-FieldsIn s = Fields (getD s 256 0) (take 4 (drop 257 s)) (take 16 (drop 261 s)) (take 35 (drop 277 s))
+FieldsIn s = Fields (getD s flagsAt 0) (fieldIn A s) (fieldIn Aaaa s) (fieldIn Dhcid s)

@@ -8,7 +8,7 @@ use Rattle.base.proofs.OrderLaws.{fault-before, fault-after, hold-both}
 use Rattle.base.specs.declared.Answer.{Answer}
 use Rattle.base.specs.declared.Answer.the-variants.{Refused}
 use Rattle.slots.specs.Form.{TableEntry, Sound}
-use Rattle.table.specs.Steps.{Outcome}
+use Rattle.table.specs.Steps.{StepOutcome}
 use Rattle.table.specs.Promise.{Results}
 use Rattle.table.specs.Calls.{Judged, Called}
 
@@ -48,7 +48,7 @@ module _ (n : ℕ) {P Q : Type 0} (forth : P → Q) (back : Q → P) (ts : List 
 
 -- ---- what a call answers
 
-module _ (limit : ℕ) (ts : List Test) (b : List ℕ) (step : List TableEntry → Outcome (List ℕ)) (r : Answer) (left : List ℕ) where
+module _ (limit : ℕ) (ts : List Test) (b : List ℕ) (step : List TableEntry → StepOutcome (List ℕ)) (r : Answer) (left : List ℕ) where
   pub faulty : (n : ℕ) → FirstFault ts n → r ≡ Refused n 0 → left ≡ b → Called limit ts b step r left
   faulty n f a e = inl (record { number = n; fault = f; answer = a; unchanged = e })
 

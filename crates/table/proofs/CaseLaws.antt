@@ -12,11 +12,11 @@ use Rattle.slots.specs.Entry.{Entry, addressOf}
 use Rattle.slots.specs.Promise.{holding, isAddress}
 use Rattle.slots.specs.declared.Family.{Family}
 use Rattle.slots.specs.declared.Holding.the-variants.{ByThis, ByAnother}
-use Rattle.table.specs.Steps.{Outcome, find, changed, without, refusedWith, acceptedWith, adding, addedTo, add, removing, removedFrom, remove, clearedFrom, clear}
+use Rattle.table.specs.Steps.{StepOutcome, find, changed, without, refusedWith, acceptedWith, adding, addedTo, add, removing, removedFrom, remove, clearedFrom, clear}
 
 module _ {H : Type 0} (same : H → H → Bool) (t : List (Entry H)) (n : List ℕ) (h : H) (f : Family) (x : List ℕ) where
   module _ (limit policy : ℕ) where
-    pub data Adding (o : Outcome H) : Type 0 where
+    pub data Adding (o : StepOutcome H) : Type 0 where
       put-last : find n t ≡ none → length t < limit → o ≡ acceptedWith 0 (t ++ entered n h f x ∷ []) → Adding o
       full : find n t ≡ none → limit ≤ length t → o ≡ refusedWith 32 t → Adding o
       by-hand : (e : Entry H) → find n t ≡ some e → e .holder ≡ none → o ≡ refusedWith 31 t → Adding o
@@ -51,7 +51,7 @@ module _ {H : Type 0} (same : H → H → Bool) (t : List (Entry H)) (n : List �
     unfolding add
     add-case = by-found (find n t) refl
 
-  pub data Removing (o : Outcome H) : Type 0 where
+  pub data Removing (o : StepOutcome H) : Type 0 where
     not-held : find n t ≡ none → o ≡ refusedWith 33 t → Removing o
     by-hand : (e : Entry H) → find n t ≡ some e → e .holder ≡ none → o ≡ refusedWith 31 t → Removing o
     another : (e : Entry H) (k : H) → find n t ≡ some e → e .holder ≡ some k → same k h ≡ false → o ≡ refusedWith 30 t → Removing o
@@ -82,7 +82,7 @@ module _ {H : Type 0} (same : H → H → Bool) (t : List (Entry H)) (n : List �
   remove-case = from-found (find n t) refl
 
 module _ {H : Type 0} (t : List (Entry H)) (n : List ℕ) where
-  pub data Clearing (o : Outcome H) : Type 0 where
+  pub data Clearing (o : StepOutcome H) : Type 0 where
     not-held : find n t ≡ none → o ≡ refusedWith 33 t → Clearing o
     cleared : (e : Entry H) → find n t ≡ some e → o ≡ acceptedWith 0 (without n t) → Clearing o
 

@@ -25,7 +25,7 @@ use Rattle.slots.specs.Promise.{isAddress}
 use Rattle.slots.specs.declared.Family.{Family}
 use Rattle.slots.specs.declared.Family.the-variants.{V4, V6}
 use Rattle.slots.proofs.Theorems.{one-table, one-sound-table}
-use Rattle.table.specs.Steps.{Outcome, find, changed, without, acceptedWith, add, remove, clear}
+use Rattle.table.specs.Steps.{StepOutcome, find, changed, without, acceptedWith, add, remove, clear}
 use Rattle.table.specs.Calls.{Called, KnownPolicy}
 use Rattle.table.specs.Demand2.{others, Ordered, MayInstall, Installs, Deleted, Cleared}
 use Rattle.table.proofs.CaseLaws.{Adding, add-case, Removing, remove-case, Clearing, clear-case}
@@ -34,7 +34,7 @@ use Rattle.table.proofs.SoundLaws.{SoundEntries, entered-well-formed, t
 
 -- ---- a call's answer and what it leaves are determined
 
-module _ (limit : ℕ) (ts : List Test) (b : List ℕ) (step : List TableEntry → Outcome (List ℕ)) where
+module _ (limit : ℕ) (ts : List Test) (b : List ℕ) (step : List TableEntry → StepOutcome (List ℕ)) where
   pub one-call : (r q : Answer) (left also : List ℕ) → Called limit ts b step r left → Called limit ts b step q also → (r ≡ q) × (left ≡ also)
   one-call r q left also (inl f) (inl g) = (
     f .answer ∙ ap (λ (n : ℕ). Refused n 0) (one-fault ts (f .number) (g .number) (f .fault) (g .fault)) ∙ sym (g .answer),
@@ -91,7 +91,7 @@ accepted-value : (v w : ℕ) → Accepted v ≡ Accepted w → v ≡ w
 accepted-value v w e = cc
 
 -- what a step on sound entries leaves: sound again, and every other entry as it was
-pub record Left (limit : ℕ) (n : List ℕ) (t : List TableEntry) (o : Outcome (List ℕ)) : Type 0 where
+pub record Left (limit : ℕ) (n : List ℕ) (t : List TableEntry) (o : StepOutcome (List ℕ)) : Type 0 where
   pub sound : SoundEntries limit (o .table)
   pub else-same : others n (o .table) ≡ others n t
 
@@ -121,7 +121,7 @@ module _ (limit : ℕ) (b : List ℕ) (s : Sound limit b) (n : List ℕ) where
   -- ---- add
 
   module _ (d : List ℕ) (f : Family) (x : List ℕ) (policy : ℕ) (proper : Proper n) (lower : canonical n ≡ n) (good : wellFormed d ≡ true) (size : length x ≡ addressSize f) where
-    by-adding : (o : Outcome (List ℕ)) → Adding eqBytes (s .table) n d f x limit policy o → Left limit n (s .table) o
+    by-adding : (o : StepOutcome (List ℕ)) → Adding eqBytes (s .table) n d f x limit policy o → Left limit n (s .table) o
     by-adding o (Adding.put-last found room e) =
         subst (Left limit n (s .table)) (sym e)
         (record {
@@ -140,29 +140,28 @@ module _ (limit : ℕ) (b : List ℕ) (s : Sound limit b) (n : List ℕ) where
     add-leaves = by-adding (add limit eqBytes (s .table) n d f x policy) (add-case eqBytes (s .table) n d f x limit policy)
 
     -- every name keeps its place, and a new one stands last
-    by-order : (o : Outcome (List ℕ)) → Adding eqBytes (s .table) n d f x limit policy o → Ordered n (names (s .table)) (names (o .table))
+    by-order : (o : StepOutcome (List ℕ)) → Adding eqBytes (s .table) n d f x limit policy o → Ordered n (names (s .table)) (names (o .table))
     by-order o (Adding.put-last found room e) =
-        inr (ap (λ (y : Outcome (List ℕ)). names (y .table)) e ∙ map-append (λ (c : TableEntry). c .name) (s .table) (entered n d f x ∷ []) ∙ ap (λ (m : List ℕ). names (s .table) ++ m ∷ []) (entered-name n d f x))
-    by-order o (Adding.full found room e) = inl (ap (λ (y : Outcome (List ℕ)). names (y .table)) e)
-    by-order o (Adding.by-hand c found holder e) = inl (ap (λ (y : Outcome (List ℕ)). names (y .table)) e)
-    by-order o (Adding.same-client c k found holder same e) = inl (ap (λ (y : Outcome (List ℕ)). names (y .table)) e ∙ names-changed n (refreshed f x) (keeps-name f (some x)) (s .table))
-    by-order o (Adding.first-wins c k found holder differs p e) = inl (ap (λ (y : Outcome (List ℕ)). names (y .table)) e)
-    by-order o (Adding.latest-wins c k found holder differs p e) = inl (ap (λ (y : Outcome (List ℕ)). names (y .table)) e ∙ names-changed n (takenOver d f x) (taken-keeps-name d f x) (s .table))
+        inr (ap (λ (y : StepOutcome (List ℕ)). names (y .table)) e ∙ map-append (λ (c : TableEntry). c .name) (s .table) (entered n d f x ∷ []) ∙ ap (λ (m : List ℕ). names (s .table) ++ m ∷ []) (entered-name n d f x))
+    by-order o (Adding.full found room e) = inl (ap (λ (y : StepOutcome (List ℕ)). names (y .table)) e)
+    by-order o (Adding.by-hand c found holder e) = inl (ap (λ (y : StepOutcome (List ℕ)). names (y .table)) e)
+    by-order o (Adding.same-client c k found holder same e) = inl (ap (λ (y : StepOutcome (List ℕ)). names (y .table)) e ∙ names-changed n (refreshed f x) (keeps-name f (some x)) (s .table))
+    by-order o (Adding.first-wins c k found holder differs p e) = inl (ap (λ (y : StepOutcome (List ℕ)). names (y .table)) e)
+    by-order o (Adding.latest-wins c k found holder differs p e) = inl (ap (λ (y : StepOutcome (List ℕ)). names (y .table)) e ∙ names-changed n (takenOver d f x) (taken-keeps-name d f x) (s .table))
 
     pub add-order : Ordered n (names (s .table)) (names (add limit eqBytes (s .table) n d f x policy .table))
     add-order = by-order (add limit eqBytes (s .table) n d f x policy) (add-case eqBytes (s .table) n d f x limit policy)
 
     -- it installs the client exactly if it may
-    pub record Stands (o : Outcome (List ℕ)) : Type 0 where
+    pub record Stands (o : StepOutcome (List ℕ)) : Type 0 where
       pub entry : TableEntry
       pub stands : find n (o .table) ≡ some entry
       pub holder : entry .holder ≡ some d
       pub address : addressOf f entry ≡ some x
       pub value : ℕ
       pub answer : o .answer ≡ Accepted value
-      pub known : value ≤ 2
 
-    installed-by : (o : Outcome (List ℕ)) → Adding eqBytes (s .table) n d f x limit policy o → MayInstall limit (s .table) n d policy → Stands o
+    installed-by : (o : StepOutcome (List ℕ)) → Adding eqBytes (s .table) n d f x limit policy o → MayInstall limit (s .table) n d policy → Stands o
     installed-by o (Adding.put-last found room e) m =
         subst Stands (sym e)
         (record {
@@ -172,7 +171,6 @@ module _ (limit : ℕ) (b : List ℕ) (s : Sound limit b) (n : List ℕ) where
           address = at-address f x (record { name = n; a = none; aaaa = none; holder = some d });
           value = 0;
           answer = refl;
-          known = omega arith;
         })
     installed-by o (Adding.same-client c k found holder same e) m =
         subst Stands (sym e)
@@ -183,7 +181,6 @@ module _ (limit : ℕ) (b : List ℕ) (s : Sound limit b) (n : List ℕ) where
           address = at-address f x c;
           value = 1;
           answer = refl;
-          known = omega arith;
         })
     installed-by o (Adding.latest-wins c k found holder differs p e) m =
         subst Stands (sym e)
@@ -194,7 +191,6 @@ module _ (limit : ℕ) (b : List ℕ) (s : Sound limit b) (n : List ℕ) where
           address = at-address f x (withAddress (other f) none (withHolder d c));
           value = 2;
           answer = refl;
-          known = omega arith;
         })
     installed-by o (Adding.full found room e) (MayInstall.unused g more) = absurd (omega arith)
     installed-by o (Adding.full found room e) (MayInstall.same c g h) = absurd (Option·some-ne-none c (sym g ∙ found))
@@ -209,12 +205,12 @@ module _ (limit : ℕ) (b : List ℕ) (s : Sound limit b) (n : List ℕ) where
         absurd (true≢false (sym (eq-eqBytes k d (Option·some-injective k d same)) ∙ differs))
     installed-by o (Adding.first-wins c k found holder differs p e) (MayInstall.latest c′ k′ g h other-one q) = absurd (omega arith)
 
-    pub may-install : (o : Outcome (List ℕ)) → Adding eqBytes (s .table) n d f x limit policy o → KnownPolicy policy → (v : ℕ) → o .answer ≡ Accepted v → MayInstall limit (s .table) n d policy
+    pub may-install : (o : StepOutcome (List ℕ)) → Adding eqBytes (s .table) n d f x limit policy o → KnownPolicy policy → (v : ℕ) → o .answer ≡ Accepted v → MayInstall limit (s .table) n d policy
     may-install o (Adding.put-last found room e) known v a = MayInstall.unused found room
-    may-install o (Adding.full found room e) known v a = absurd (accepted≢refused (sym a ∙ ap (λ (y : Outcome (List ℕ)). y .answer) e))
-    may-install o (Adding.by-hand c found holder e) known v a = absurd (accepted≢refused (sym a ∙ ap (λ (y : Outcome (List ℕ)). y .answer) e))
+    may-install o (Adding.full found room e) known v a = absurd (accepted≢refused (sym a ∙ ap (λ (y : StepOutcome (List ℕ)). y .answer) e))
+    may-install o (Adding.by-hand c found holder e) known v a = absurd (accepted≢refused (sym a ∙ ap (λ (y : StepOutcome (List ℕ)). y .answer) e))
     may-install o (Adding.same-client c k found holder same e) known v a = MayInstall.same c found (holder ∙ same-holder k d same)
-    may-install o (Adding.first-wins c k found holder differs p e) known v a = absurd (accepted≢refused (sym a ∙ ap (λ (y : Outcome (List ℕ)). y .answer) e))
+    may-install o (Adding.first-wins c k found holder differs p e) known v a = absurd (accepted≢refused (sym a ∙ ap (λ (y : StepOutcome (List ℕ)). y .answer) e))
     may-install o (Adding.latest-wins c k found holder differs p e) known v a =
         MayInstall.latest c k found holder (λ same. true≢false (sym (eq-eqBytes k d same) ∙ differs)) (⊎-elim (λ z. absurd (p z)) (λ one. one) known)
 
@@ -224,7 +220,7 @@ module _ (limit : ℕ) (b : List ℕ) (s : Sound limit b) (n : List ℕ) where
     -- and answers and leaves under the name what document 01 says
     outcome-is : {r : Answer} {e : TableEntry} (v : ℕ) (u : List TableEntry) → add limit eqBytes (s .table) n d f x policy ≡ acceptedWith v u → Accepted v ≡ r → find n u ≡ some e
         → (add limit eqBytes (s .table) n d f x policy .answer ≡ r) × (find n (add limit eqBytes (s .table) n d f x policy .table) ≡ some e)
-    outcome-is v u o a found = (ap (λ (y : Outcome (List ℕ)). y .answer) o ∙ a, ap (λ (y : Outcome (List ℕ)). find n (y .table)) o ∙ found)
+    outcome-is v u o a found = (ap (λ (y : StepOutcome (List ℕ)). y .answer) o ∙ a, ap (λ (y : StepOutcome (List ℕ)). find n (y .table)) o ∙ found)
 
     pub add-gives : (r : Answer) (e : TableEntry) → Installs limit (s .table) n d f x policy r e
         → (add limit eqBytes (s .table) n d f x policy .answer ≡ r) × (find n (add limit eqBytes (s .table) n d f x policy .table) ≡ some e)
@@ -240,7 +236,7 @@ module _ (limit : ℕ) (b : List ℕ) (s : Sound limit b) (n : List ℕ) where
   -- ---- remove
 
   module _ (d : List ℕ) (f : Family) (x : List ℕ) where
-    by-removing : (o : Outcome (List ℕ)) → Removing eqBytes (s .table) n d f x o → Left limit n (s .table) o
+    by-removing : (o : StepOutcome (List ℕ)) → Removing eqBytes (s .table) n d f x o → Left limit n (s .table) o
     by-removing o (Removing.not-held found e) = subst (Left limit n (s .table)) (sym e) (as-it-was (Refused 33 0))
     by-removing o (Removing.by-hand c found holder e) = subst (Left limit n (s .table)) (sym e) (as-it-was (Refused 31 0))
     by-removing o (Removing.another c k found holder differs e) = subst (Left limit n (s .table)) (sym e) (as-it-was (Refused 30 0))
@@ -253,14 +249,14 @@ module _ (limit : ℕ) (b : List ℕ) (s : Sound limit b) (n : List ℕ) where
     pub remove-leaves : Left limit n (s .table) (remove eqBytes (s .table) n d f x)
     remove-leaves = by-removing (remove eqBytes (s .table) n d f x) (remove-case eqBytes (s .table) n d f x)
 
-    by-deleting : (o : Outcome (List ℕ)) → Removing eqBytes (s .table) n d f x o → (v : ℕ) → o .answer ≡ Accepted v → (v ≡ 0) × Deleted (s .table) (o .table) n d f x
-    by-deleting o (Removing.not-held found e) v a = absurd (accepted≢refused (sym a ∙ ap (λ (y : Outcome (List ℕ)). y .answer) e))
-    by-deleting o (Removing.by-hand c found holder e) v a = absurd (accepted≢refused (sym a ∙ ap (λ (y : Outcome (List ℕ)). y .answer) e))
-    by-deleting o (Removing.another c k found holder differs e) v a = absurd (accepted≢refused (sym a ∙ ap (λ (y : Outcome (List ℕ)). y .answer) e))
-    by-deleting o (Removing.differs c k found holder same b′ e) v a = absurd (accepted≢refused (sym a ∙ ap (λ (y : Outcome (List ℕ)). y .answer) e))
+    by-deleting : (o : StepOutcome (List ℕ)) → Removing eqBytes (s .table) n d f x o → (v : ℕ) → o .answer ≡ Accepted v → (v ≡ 0) × Deleted (s .table) (o .table) n d f x
+    by-deleting o (Removing.not-held found e) v a = absurd (accepted≢refused (sym a ∙ ap (λ (y : StepOutcome (List ℕ)). y .answer) e))
+    by-deleting o (Removing.by-hand c found holder e) v a = absurd (accepted≢refused (sym a ∙ ap (λ (y : StepOutcome (List ℕ)). y .answer) e))
+    by-deleting o (Removing.another c k found holder differs e) v a = absurd (accepted≢refused (sym a ∙ ap (λ (y : StepOutcome (List ℕ)). y .answer) e))
+    by-deleting o (Removing.differs c k found holder same b′ e) v a = absurd (accepted≢refused (sym a ∙ ap (λ (y : StepOutcome (List ℕ)). y .answer) e))
     by-deleting o (Removing.removed c k found holder same b′ e) v a =
-        let table : o .table ≡ changed n (deleted f) (s .table) = ap (λ (y : Outcome (List ℕ)). y .table) e in (
-          accepted-value v 0 (sym a ∙ ap (λ (y : Outcome (List ℕ)). y .answer) e),
+        let table : o .table ≡ changed n (deleted f) (s .table) = ap (λ (y : StepOutcome (List ℕ)). y .table) e in (
+          accepted-value v 0 (sym a ∙ ap (λ (y : StepOutcome (List ℕ)). y .answer) e),
           subst (λ (u : List TableEntry). Deleted (s .table) u n d f x) (sym table)
               (record {
                 entry = c;
@@ -278,7 +274,7 @@ module _ (limit : ℕ) (b : List ℕ) (s : Sound limit b) (n : List ℕ) where
 
   -- ---- clear
 
-  by-clearing : (o : Outcome (List ℕ)) → Clearing (s .table) n o → Left limit n (s .table) o
+  by-clearing : (o : StepOutcome (List ℕ)) → Clearing (s .table) n o → Left limit n (s .table) o
   by-clearing o (Clearing.not-held found e) = subst (Left limit n (s .table)) (sym e) (as-it-was (Refused 33 0))
   by-clearing o (Clearing.cleared c found e) =
       subst (Left limit n (s .table)) (sym e)
@@ -287,11 +283,11 @@ module _ (limit : ℕ) (b : List ℕ) (s : Sound limit b) (n : List ℕ) where
   pub clear-leaves : Left limit n (s .table) (clear (s .table) n)
   clear-leaves = by-clearing (clear (s .table) n) (clear-case (s .table) n)
 
-  by-taking : (o : Outcome (List ℕ)) → Clearing (s .table) n o → (v : ℕ) → o .answer ≡ Accepted v → (v ≡ 0) × Cleared (s .table) (o .table) n
-  by-taking o (Clearing.not-held found e) v a = absurd (accepted≢refused (sym a ∙ ap (λ (y : Outcome (List ℕ)). y .answer) e))
+  by-taking : (o : StepOutcome (List ℕ)) → Clearing (s .table) n o → (v : ℕ) → o .answer ≡ Accepted v → (v ≡ 0) × Cleared (s .table) (o .table) n
+  by-taking o (Clearing.not-held found e) v a = absurd (accepted≢refused (sym a ∙ ap (λ (y : StepOutcome (List ℕ)). y .answer) e))
   by-taking o (Clearing.cleared c found e) v a =
-      let table : o .table ≡ without n (s .table) = ap (λ (y : Outcome (List ℕ)). y .table) e in (
-        accepted-value v 0 (sym a ∙ ap (λ (y : Outcome (List ℕ)). y .answer) e),
+      let table : o .table ≡ without n (s .table) = ap (λ (y : StepOutcome (List ℕ)). y .table) e in (
+        accepted-value v 0 (sym a ∙ ap (λ (y : StepOutcome (List ℕ)). y .answer) e),
         subst (λ (u : List TableEntry). Cleared (s .table) u n) (sym table)
             (record { entry = c; stood = found; gone = find-without n (s .table) (s .distinct); else-same = others-without n (s .table) }),
       )
@@ -302,24 +298,24 @@ module _ (limit : ℕ) (b : List ℕ) (s : Sound limit b) (n : List ℕ) where
 -- ---- refusals change nothing, and acceptance is determined
 
 module _ (t : List TableEntry) (n d : List ℕ) (f : Family) (x : List ℕ) (m at : ℕ) where
-  pub add-refused : (limit policy : ℕ) (o : Outcome (List ℕ)) → Adding eqBytes t n d f x limit policy o → o .answer ≡ Refused m at → o .table ≡ t
-  add-refused limit policy o (Adding.put-last found room e) a = absurd (accepted≢refused (sym (ap (λ (y : Outcome (List ℕ)). y .answer) e) ∙ a))
-  add-refused limit policy o (Adding.full found room e) a = ap (λ (y : Outcome (List ℕ)). y .table) e
-  add-refused limit policy o (Adding.by-hand c found holder e) a = ap (λ (y : Outcome (List ℕ)). y .table) e
-  add-refused limit policy o (Adding.same-client c k found holder same e) a = absurd (accepted≢refused (sym (ap (λ (y : Outcome (List ℕ)). y .answer) e) ∙ a))
-  add-refused limit policy o (Adding.first-wins c k found holder differs p e) a = ap (λ (y : Outcome (List ℕ)). y .table) e
-  add-refused limit policy o (Adding.latest-wins c k found holder differs p e) a = absurd (accepted≢refused (sym (ap (λ (y : Outcome (List ℕ)). y .answer) e) ∙ a))
+  pub add-refused : (limit policy : ℕ) (o : StepOutcome (List ℕ)) → Adding eqBytes t n d f x limit policy o → o .answer ≡ Refused m at → o .table ≡ t
+  add-refused limit policy o (Adding.put-last found room e) a = absurd (accepted≢refused (sym (ap (λ (y : StepOutcome (List ℕ)). y .answer) e) ∙ a))
+  add-refused limit policy o (Adding.full found room e) a = ap (λ (y : StepOutcome (List ℕ)). y .table) e
+  add-refused limit policy o (Adding.by-hand c found holder e) a = ap (λ (y : StepOutcome (List ℕ)). y .table) e
+  add-refused limit policy o (Adding.same-client c k found holder same e) a = absurd (accepted≢refused (sym (ap (λ (y : StepOutcome (List ℕ)). y .answer) e) ∙ a))
+  add-refused limit policy o (Adding.first-wins c k found holder differs p e) a = ap (λ (y : StepOutcome (List ℕ)). y .table) e
+  add-refused limit policy o (Adding.latest-wins c k found holder differs p e) a = absurd (accepted≢refused (sym (ap (λ (y : StepOutcome (List ℕ)). y .answer) e) ∙ a))
 
-  pub remove-refused : (o : Outcome (List ℕ)) → Removing eqBytes t n d f x o → o .answer ≡ Refused m at → o .table ≡ t
-  remove-refused o (Removing.not-held found e) a = ap (λ (y : Outcome (List ℕ)). y .table) e
-  remove-refused o (Removing.by-hand c found holder e) a = ap (λ (y : Outcome (List ℕ)). y .table) e
-  remove-refused o (Removing.another c k found holder differs e) a = ap (λ (y : Outcome (List ℕ)). y .table) e
-  remove-refused o (Removing.differs c k found holder same b′ e) a = ap (λ (y : Outcome (List ℕ)). y .table) e
-  remove-refused o (Removing.removed c k found holder same b′ e) a = absurd (accepted≢refused (sym (ap (λ (y : Outcome (List ℕ)). y .answer) e) ∙ a))
+  pub remove-refused : (o : StepOutcome (List ℕ)) → Removing eqBytes t n d f x o → o .answer ≡ Refused m at → o .table ≡ t
+  remove-refused o (Removing.not-held found e) a = ap (λ (y : StepOutcome (List ℕ)). y .table) e
+  remove-refused o (Removing.by-hand c found holder e) a = ap (λ (y : StepOutcome (List ℕ)). y .table) e
+  remove-refused o (Removing.another c k found holder differs e) a = ap (λ (y : StepOutcome (List ℕ)). y .table) e
+  remove-refused o (Removing.differs c k found holder same b′ e) a = ap (λ (y : StepOutcome (List ℕ)). y .table) e
+  remove-refused o (Removing.removed c k found holder same b′ e) a = absurd (accepted≢refused (sym (ap (λ (y : StepOutcome (List ℕ)). y .answer) e) ∙ a))
 
-pub clear-refused : (t : List TableEntry) (n : List ℕ) (m at : ℕ) (o : Outcome (List ℕ)) → Clearing t n o → o .answer ≡ Refused m at → o .table ≡ t
-clear-refused t n m at o (Clearing.not-held found e) a = ap (λ (y : Outcome (List ℕ)). y .table) e
-clear-refused t n m at o (Clearing.cleared c found e) a = absurd (accepted≢refused (sym (ap (λ (y : Outcome (List ℕ)). y .answer) e) ∙ a))
+pub clear-refused : (t : List TableEntry) (n : List ℕ) (m at : ℕ) (o : StepOutcome (List ℕ)) → Clearing t n o → o .answer ≡ Refused m at → o .table ≡ t
+clear-refused t n m at o (Clearing.not-held found e) a = ap (λ (y : StepOutcome (List ℕ)). y .table) e
+clear-refused t n m at o (Clearing.cleared c found e) a = absurd (accepted≢refused (sym (ap (λ (y : StepOutcome (List ℕ)). y .answer) e) ∙ a))
 
 -- what stands under the name, with that client and that address, is removed
 has-address : (o : Option (List ℕ)) (x : List ℕ) → o ≡ some x → isAddress o x ≡ true
@@ -334,14 +330,14 @@ module _ (t : List TableEntry) (n d : List ℕ) (f : Family) (x : List ℕ) (c :
     this-holder : (e : TableEntry) (k : List ℕ) → find n t ≡ some e → e .holder ≡ some k → k ≡ d
     this-holder e k found held = Option·some-injective k d (sym held ∙ ap (λ (y : TableEntry). y .holder) (it-is e found) ∙ holder)
 
-    pub remove-accepted : (o : Outcome (List ℕ)) → Removing eqBytes t n d f x o → o .answer ≡ Accepted 0
+    pub remove-accepted : (o : StepOutcome (List ℕ)) → Removing eqBytes t n d f x o → o .answer ≡ Accepted 0
     remove-accepted o (Removing.not-held found e) = absurd (Option·some-ne-none c (sym stood ∙ found))
     remove-accepted o (Removing.by-hand c′ found none-held e) = absurd (Option·none-ne-some d (sym none-held ∙ ap (λ (y : TableEntry). y .holder) (it-is c′ found) ∙ holder))
     remove-accepted o (Removing.another c′ k found held differs e) = absurd (true≢false (sym (eq-eqBytes k d (this-holder c′ k found held)) ∙ differs))
     remove-accepted o (Removing.differs c′ k found held same no-such e) =
         absurd (true≢false (sym (has-address (addressOf f c′) x (ap (addressOf f) (it-is c′ found) ∙ address)) ∙ no-such))
-    remove-accepted o (Removing.removed c′ k found held same such e) = ap (λ (y : Outcome (List ℕ)). y .answer) e
+    remove-accepted o (Removing.removed c′ k found held same such e) = ap (λ (y : StepOutcome (List ℕ)). y .answer) e
 
-pub clear-accepted : (t : List TableEntry) (n : List ℕ) (c : TableEntry) → find n t ≡ some c → (o : Outcome (List ℕ)) → Clearing t n o → o .answer ≡ Accepted 0
+pub clear-accepted : (t : List TableEntry) (n : List ℕ) (c : TableEntry) → find n t ≡ some c → (o : StepOutcome (List ℕ)) → Clearing t n o → o .answer ≡ Accepted 0
 clear-accepted t n c stood o (Clearing.not-held found e) = absurd (Option·some-ne-none c (sym stood ∙ found))
-clear-accepted t n c stood o (Clearing.cleared c′ found e) = ap (λ (y : Outcome (List ℕ)). y .answer) e
+clear-accepted t n c stood o (Clearing.cleared c′ found e) = ap (λ (y : StepOutcome (List ℕ)). y .answer) e

@@ -1,6 +1,6 @@
 pub mod FoundLaws
 pub mod ArgumentLaws
-pub mod PlaceLaws
+pub mod SlotForLaws
 pub mod EntryLaws
 pub mod StepLaws
 pub mod OutcomeLaws

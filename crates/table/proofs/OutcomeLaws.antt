@@ -17,12 +17,12 @@ use Rattle.slots.specs.Promise.{closedUp, holding, isAddress}
 use Rattle.slots.specs.declared.Family.{Family}
 use Rattle.slots.specs.declared.Holding.{Holding}
 use Rattle.slots.specs.declared.Holding.the-variants.{ByHand, ByThis, ByAnother}
-use Rattle.table.specs.Steps.{Outcome, find, adding, acceptedWith, refusedWith, add, removing, remove, clear}
+use Rattle.table.specs.Steps.{StepOutcome, find, adding, acceptedWith, refusedWith, add, removing, remove, clear}
 use Rattle.table.specs.Promise.{AtEntry, inSlot, LeavesSlot, addedAt, removedAt, Results}
 use Rattle.table.proofs.StepLaws.{HeldAt, FreeAt, FullUp}
 
 -- the outcome o is that of a step at the entry between p and r
-pub record Between (p r : List TableEntry) (o : Outcome (List ℕ)) (a : AtEntry) : Type 0 where
+pub record Between (p r : List TableEntry) (o : StepOutcome (List ℕ)) (a : AtEntry) : Type 0 where
   pub answer : o .answer ≡ a .answer
   pub table : o .table ≡ p ++ a .entry ∷ r
 
@@ -49,7 +49,7 @@ module _ (p r : List TableEntry) (e : TableEntry) (t : List TableEntry) (cut : t
   removing-at ByAnother there gone u is = record { answer = refl; table = cut }
 
 module _ (k : ℕ) (n : List ℕ) (t : List TableEntry) (b : List ℕ) (r : Answer) (left : List ℕ) where
-  at-results : (at : ℕ) (h : HeldAt k n t b at) (o : Outcome (List ℕ)) (a : AtEntry) → Between (h .before) (h .after) o a → LeavesSlot b at a r left → Results k o r left
+  at-results : (at : ℕ) (h : HeldAt k n t b at) (o : StepOutcome (List ℕ)) (a : AtEntry) → Between (h .before) (h .after) o a → LeavesSlot b at a r left → Results k o r left
   at-results at h o a m l = record { answer = l .answered ∙ sym (m .answer); table = l .table ∙ h .put (a .entry) ∙ ap (tableBytes k) (sym (m .table)) }
 
   -- nothing changed

@@ -6,6 +6,7 @@ use mathlib.Core.List.{List}
 use mathlib.Core.Option.{some}
 use Rattle.base.specs.Bytes.{eqBytes}
 use Rattle.base.specs.Family.{KnownFamily}
+use Rattle.base.specs.Answer.{IsAccepted}
 use Rattle.base.specs.declared.Answer.{Answer}
 use Rattle.base.specs.declared.Answer.the-variants.{Accepted, Refused}
 use Rattle.name.specs.Name.{canonical}
@@ -91,27 +92,25 @@ module _ (limit : ℕ) (b name dhcid : List ℕ) (family : ℕ) (address : List 
           (add-order limit b s (canonical name) dhcid (familyOf family) address policy (c .proper) (c .again) (args .1 .1 .1 .0) (args .1 .1 .1 .1 .0))
 
       -- demand 2: the client is installed in the three cases of MayInstall, and in no other
-      pub installs : (s : Sound limit b) → Installed limit left (canonical name) dhcid (familyOf family) address r ↔ MayInstall limit (s .table) (canonical name) dhcid policy
-      unfolding Adds
-      installs s =
+      pub installs : (s : Sound limit b) (k : Sound limit left) → Installed (k .table) (canonical name) dhcid (familyOf family) address r ↔ MayInstall limit (s .table) (canonical name) dhcid policy
+      unfolding Adds IsAccepted
+      installs s k =
           let c = canonical-form name (args .1 .1 .0) in
           let w = was-stepped limit (argumentTests limit (KnownFamily family × KnownPolicy policy) b name dhcid family address) b _ r left h args (s .table) (s .slots) in
           let l = add-leaves limit b s (canonical name) dhcid (familyOf family) address policy (c .proper) (c .again) (args .1 .1 .1 .0) (args .1 .1 .1 .1 .0) in
+          let same = one-sound-table limit left (left-sound limit left _ (l .sound) (w .1)) k in
           let case = add-case eqBytes (s .table) (canonical name) dhcid (familyOf family) address limit policy in (
             λ i.
-                may-install limit b s (canonical name) dhcid (familyOf family) address policy (c .proper) (c .again) (args .1 .1 .1 .0) (args .1 .1 .1 .1 .0) _ case (args .0 .1) (i .value)
-                (sym (w .0) ∙ i .answer),
+                may-install limit b s (canonical name) dhcid (familyOf family) address policy (c .proper) (c .again) (args .1 .1 .1 .0) (args .1 .1 .1 .1 .0) _ case (args .0 .1) (i .accepted .0)
+                (sym (w .0) ∙ i .accepted .1),
             λ m.
                 let i = add-installs limit b s (canonical name) dhcid (familyOf family) address policy (c .proper) (c .again) (args .1 .1 .1 .0) (args .1 .1 .1 .1 .0) m in
                 record {
-                  sound = left-sound limit left _ (l .sound) (w .1);
                   entry = i .entry;
-                  stands = i .stands;
+                  stands = ap (find (canonical name)) (sym same) ∙ i .stands;
                   holder = i .holder;
                   address = i .address;
-                  value = i .value;
-                  answer = w .0 ∙ i .answer;
-                  known = i .known;
+                  accepted = (i .value, w .0 ∙ i .answer);
                 },
           )
 

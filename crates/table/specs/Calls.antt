@@ -16,7 +16,7 @@ use Rattle.base.specs.declared.Answer.the-variants.{Refused}
 use Rattle.name.specs.Name.{Proper, canonical}
 use Rattle.slots.specs.Entry.{familyOf, addressSize}
 use Rattle.slots.specs.Form.{TableEntry, tableBytes, Sound}
-use Rattle.table.specs.Steps.{Outcome, add, remove, clear}
+use Rattle.table.specs.Steps.{StepOutcome, add, remove, clear}
 
 -- ---- what is tested
 
@@ -52,13 +52,13 @@ pub record Faulty (ts : List Test) (b : List ℕ) (r : Answer) (left : List ℕ)
   pub unchanged : left ≡ b
 
 -- they all hold, and the step on the table's entries decides
-pub record Stepped (limit : ℕ) (ts : List Test) (b : List ℕ) (step : List TableEntry → Outcome (List ℕ)) (r : Answer) (left : List ℕ) : Type 0 where
+pub record Stepped (limit : ℕ) (ts : List Test) (b : List ℕ) (step : List TableEntry → StepOutcome (List ℕ)) (r : Answer) (left : List ℕ) : Type 0 where
   pub all-hold : AllHold ts
   pub sound : Sound limit b
   pub answer : r ≡ step (sound .table) .answer
   pub table : left ≡ tableBytes limit (step (sound .table) .table)
 
-abbrev pub Called : ℕ → List Test → List ℕ → (List TableEntry → Outcome (List ℕ)) → Answer → List ℕ → Type 0
+abbrev pub Called : ℕ → List Test → List ℕ → (List TableEntry → StepOutcome (List ℕ)) → Answer → List ℕ → Type 0
 Called limit ts b step r left = Faulty ts b r left ⊎ Stepped limit ts b step r left
 
 -- ---- the three calls

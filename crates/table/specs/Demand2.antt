@@ -1,12 +1,13 @@
 -- Demand 2 of the customer, of the three steps: what an add, a remove and a clear do and no more, said of the table's entries before and after the call. Which entries a table's bytes
 -- have is determined (slots, proofs/Theorems.antt).
-use Prim.Native.Nat.{ℕ, _≤_, _<_}
+use Prim.Native.Nat.{ℕ, _<_}
 use mathlib.Core.Bool.{cond}
 use mathlib.Core.Path.{_≡_}
 use mathlib.Core.Logic.{_⊎_}
 use mathlib.Core.List.{List, [], _∷_, _++_}
 use mathlib.Core.Option.{none, some}
 use lib.ListN.{length}
+use Rattle.base.specs.Answer.{IsAccepted}
 use Rattle.base.specs.Bytes.{eqBytes}
 use Rattle.base.specs.Family.{KnownFamily}
 use Rattle.base.specs.Order.{AllHold}
@@ -14,7 +15,7 @@ use Rattle.base.specs.declared.Answer.{Answer}
 use Rattle.base.specs.declared.Answer.the-variants.{Accepted}
 use Rattle.slots.specs.Effect.{entered, refreshed, takenOver, deleted}
 use Rattle.slots.specs.Entry.{Entry, names, addressOf}
-use Rattle.slots.specs.Form.{TableEntry, Sound}
+use Rattle.slots.specs.Form.{TableEntry}
 use Rattle.slots.specs.declared.Family.{Family}
 use Rattle.table.specs.Steps.{find}
 use Rattle.table.specs.Calls.{KnownPolicy, nameTests, argumentTests}
@@ -53,16 +54,14 @@ pub data Installs (limit : ℕ) (t : List TableEntry) (n d : List ℕ) (f : Fami
   same : (e : TableEntry) → find n t ≡ some e → e .holder ≡ some d → Installs limit t n d f x policy (Accepted 1) (refreshed f x e)
   latest : (e : TableEntry) (c : List ℕ) → find n t ≡ some e → e .holder ≡ some c → (c ≡ d → ⊥) → policy ≡ 1 → Installs limit t n d f x policy (Accepted 2) (takenOver d f x e)
 
--- the client with the DHCID d is installed under the name n: the table is sound, the name's entry has that DHCID and that address, and the answer is 0, 1 or 2
-pub record Installed (limit : ℕ) (left n d : List ℕ) (f : Family) (x : List ℕ) (r : Answer) : Type 0 where
-  pub sound : Sound limit left
+-- the client with the DHCID d is installed under the name n of the entries u: the name's entry has that DHCID and that address, and r, which was answered, is no
+-- refusal. Which of 0, 1 and 2 it is, Installs says
+pub record Installed (u : List TableEntry) (n d : List ℕ) (f : Family) (x : List ℕ) (r : Answer) : Type 0 where
   pub entry : TableEntry
-  pub stands : find n (sound .table) ≡ some entry
+  pub stands : find n u ≡ some entry
   pub holder : entry .holder ≡ some d
   pub address : addressOf f entry ≡ some x
-  pub value : ℕ
-  pub answer : r ≡ Accepted value
-  pub known : value ≤ 2
+  pub accepted : IsAccepted r
 
 -- ---- the sentence on removes and clears
 

@@ -10,20 +10,21 @@ use Rattle.base.specs.Refusal.{heldByAnother, keptByHand, addressDiffers}
 use Rattle.base.specs.declared.Answer.{Answer}
 use Rattle.base.specs.declared.Answer.the-variants.{Accepted, Refused}
 use Rattle.slots.specs.Entry.{position}
-use Rattle.slots.specs.Form.{TableEntry, slotSize, slotBytes, tableBytes}
+use Rattle.slots.specs.Form.{TableEntry, slotBytes, tableBytes}
+use Rattle.slots.specs.Sizes.{slotSize}
 use Rattle.slots.specs.declared.Holding.{Holding}
 use Rattle.slots.specs.declared.Holding.the-variants.{ByHand, ByThis, ByAnother}
-use Rattle.table.specs.Steps.{Outcome, find}
-use Rattle.table.specs.declared.place.Place.{Place}
-use Rattle.table.specs.declared.place.Place.the-variants.{Held, Free, Full}
+use Rattle.table.specs.Steps.{StepOutcome, find}
+use Rattle.table.specs.declared.slot_for.SlotFor.{SlotFor}
+use Rattle.table.specs.declared.slot_for.SlotFor.the-variants.{Held, Free, Full}
 
 -- where a name stands, or would: by the offset of its slot
-abbrev pub placedBy : Option TableEntry → ℕ → ℕ → ℕ → Place
-placedBy (some e) limit at used = Held (slotSize * at)
-placedBy none limit at used = cond (ltb used limit) (Free (slotSize * used)) Full
+abbrev pub slotBy : Option TableEntry → ℕ → ℕ → ℕ → SlotFor
+slotBy (some e) limit at used = Held (slotSize * at)
+slotBy none limit at used = cond (ltb used limit) (Free (slotSize * used)) Full
 
-unfoldable pub placeOf : ℕ → List ℕ → List TableEntry → Place
-placeOf limit n t = placedBy (find n t) limit (position n t) (length t)
+unfoldable pub slotFor : ℕ → List ℕ → List TableEntry → SlotFor
+slotFor limit n t = slotBy (find n t) limit (position n t) (length t)
 
 -- what a step comes to at the entry under the name: the answer, and the entry that then stands there
 pub record AtEntry : Type 0 where
@@ -60,6 +61,6 @@ removedAt ByThis there e gone = cond there (record { answer = Accepted 0; entry 
 removedAt ByAnother there e gone = record { answer = Refused heldByAnother 0; entry = e }
 
 -- the answer and the bytes left are those of an outcome
-pub record Results (limit : ℕ) (o : Outcome (List ℕ)) (r : Answer) (left : List ℕ) : Type 0 where
+pub record Results (limit : ℕ) (o : StepOutcome (List ℕ)) (r : Answer) (left : List ℕ) : Type 0 where
   pub answer : r ≡ o .answer
   pub table : left ≡ tableBytes limit (o .table)

@@ -18,7 +18,7 @@ use Rattle.slots.specs.declared.Holding.{Holding}
 use Rattle.slots.specs.declared.Holding.the-variants.{ByHand, ByThis, ByAnother}
 
 -- what is answered, and the table that then stands
-pub record Outcome (H : Type 0) : Type 0 where
+pub record StepOutcome (H : Type 0) : Type 0 where
   pub answer : Answer
   pub table : List (Entry H)
 
@@ -42,50 +42,50 @@ module _ {H : Type 0} where
 
   -- ---- what a call comes to
 
-  abbrev pub refusedWith : ℕ → List (Entry H) → Outcome H
+  abbrev pub refusedWith : ℕ → List (Entry H) → StepOutcome H
   refusedWith n t = record { answer = Refused n 0; table = t }
 
-  abbrev pub acceptedWith : ℕ → List (Entry H) → Outcome H
+  abbrev pub acceptedWith : ℕ → List (Entry H) → StepOutcome H
   acceptedWith v t = record { answer = Accepted v; table = t }
 
   -- latest wins, unless the policy is 0: first wins
-  abbrev pub contested : ℕ → List (Entry H) → List (Entry H) → Outcome H
+  abbrev pub contested : ℕ → List (Entry H) → List (Entry H) → StepOutcome H
   contested policy t taken = cond (eqb policy 0) (refusedWith heldByAnother t) (acceptedWith 2 taken)
 
   -- an add, by what stands under the name
-  abbrev pub adding : Holding → ℕ → List (Entry H) → List (Entry H) → List (Entry H) → Outcome H
+  abbrev pub adding : Holding → ℕ → List (Entry H) → List (Entry H) → List (Entry H) → StepOutcome H
   adding ByHand policy t same taken = refusedWith keptByHand t
   adding ByThis policy t same taken = acceptedWith 1 same
   adding ByAnother policy t same taken = contested policy t taken
 
   -- a remove, by what stands under the name and whether it has that address
-  abbrev pub removing : Holding → Bool → List (Entry H) → List (Entry H) → Outcome H
+  abbrev pub removing : Holding → Bool → List (Entry H) → List (Entry H) → StepOutcome H
   removing ByHand there t gone = refusedWith keptByHand t
   removing ByThis there t gone = cond there (acceptedWith 0 gone) (refusedWith addressDiffers t)
   removing ByAnother there t gone = refusedWith heldByAnother t
 
   -- ---- the three steps
 
-  abbrev pub addedTo : Option (Entry H) → ℕ → (H → H → Bool) → List (Entry H) → List ℕ → H → Family → List ℕ → ℕ → Outcome H
+  abbrev pub addedTo : Option (Entry H) → ℕ → (H → H → Bool) → List (Entry H) → List ℕ → H → Family → List ℕ → ℕ → StepOutcome H
   addedTo none limit same t n h f x policy = cond (ltb (length t) limit) (acceptedWith 0 (t ++ entered n h f x ∷ [])) (refusedWith tableFull t)
   addedTo (some e) limit same t n h f x policy = adding (holding same (e .holder) h) policy t (changed n (refreshed f x) t) (changed n (takenOver h f x) t)
 
   -- Add: under the name n, for the client h, the address x of the family f
-  unfoldable pub add : ℕ → (H → H → Bool) → List (Entry H) → List ℕ → H → Family → List ℕ → ℕ → Outcome H
+  unfoldable pub add : ℕ → (H → H → Bool) → List (Entry H) → List ℕ → H → Family → List ℕ → ℕ → StepOutcome H
   add limit same t n h f x policy = addedTo (find n t) limit same t n h f x policy
 
-  abbrev pub removedFrom : Option (Entry H) → (H → H → Bool) → List (Entry H) → List ℕ → H → Family → List ℕ → Outcome H
+  abbrev pub removedFrom : Option (Entry H) → (H → H → Bool) → List (Entry H) → List ℕ → H → Family → List ℕ → StepOutcome H
   removedFrom none same t n h f x = refusedWith nameNotHeld t
   removedFrom (some e) same t n h f x = removing (holding same (e .holder) h) (isAddress (addressOf f e) x) t (changed n (deleted f) t)
 
   -- Remove
-  unfoldable pub remove : (H → H → Bool) → List (Entry H) → List ℕ → H → Family → List ℕ → Outcome H
+  unfoldable pub remove : (H → H → Bool) → List (Entry H) → List ℕ → H → Family → List ℕ → StepOutcome H
   remove same t n h f x = removedFrom (find n t) same t n h f x
 
-  abbrev pub clearedFrom : Option (Entry H) → List (Entry H) → List ℕ → Outcome H
+  abbrev pub clearedFrom : Option (Entry H) → List (Entry H) → List ℕ → StepOutcome H
   clearedFrom none t n = refusedWith nameNotHeld t
   clearedFrom (some e) t n = acceptedWith 0 (without n t)
 
   -- Clear
-  unfoldable pub clear : List (Entry H) → List ℕ → Outcome H
+  unfoldable pub clear : List (Entry H) → List ℕ → StepOutcome H
   clear t n = clearedFrom (find n t) t n

@@ -14,6 +14,7 @@ ghost use mathlib.Core.Path.{_≡_};
 ghost use Rattle.base.specs.Family.{KnownFamily};
 ghost use Rattle.base.specs.Logic.{Decides};
 ghost use Rattle.slots.specs.Entry.{familyOf};
+ghost use Rattle.slots.specs.Sizes.{mostNames};
 ghost use Rattle.table.specs.Calls as calls;
 
 // The number of a family, as a call gives it.
@@ -55,7 +56,7 @@ pub(crate) fn family_of(family: u32) -> Family
 
 // The first fault of a table and a name: 40, 9; 0 where there is none.
 pub(crate) fn name_fault(table: &[u8], name: &[u8]) -> u32
-    ensures { λ r. ⌜ calls.Judged (calls.nameTests 64 (now (table .entry)) (now (name .entry))) r ⌝ }
+    ensures { λ r. ⌜ calls.Judged (calls.nameTests mostNames (now (table .entry)) (now (name .entry))) r ⌝ }
 {
     if !is_sound(table) {
         return TABLE_NOT_SOUND;
@@ -75,7 +76,7 @@ pub(crate) fn argument_fault(
     family: u32,
     address: &[u8],
 ) -> u32
-    ensures { λ r. ⌜ calls.Judged (calls.argumentTests 64 (known ≡ true) (now (table .entry)) (now (name .entry)) (now (dhcid .entry)) family (now (address .entry))) r ⌝ }
+    ensures { λ r. ⌜ calls.Judged (calls.argumentTests mostNames (known ≡ true) (now (table .entry)) (now (name .entry)) (now (dhcid .entry)) family (now (address .entry))) r ⌝ }
 {
     if !known {
         return UNKNOWN_SETTING;

@@ -1,6 +1,6 @@
 // The table of names: add, remove and clear. A call decides first and writes last, so a refused one has written nothing.
 mod arguments;
-pub mod place;
+pub mod slot_for;
 mod step;
 
 use arguments::argument_fault;
@@ -9,6 +9,7 @@ use arguments::is_family;
 use arguments::is_policy;
 use arguments::name_fault;
 use base::Answer;
+ghost use Rattle.slots.specs.Sizes.{mostNames};
 ghost use Rattle.table.specs.Calls as calls;
 
 // Gives the name to the client with this DHCID, with its address, under the policy for a name that another client holds: 0, the first keeps it, or 1, the latest
@@ -21,7 +22,7 @@ pub fn add(
     address: &[u8],
     policy: u32,
 ) -> Answer
-    ensures { λ r. ⌜ calls.Adds 64 (now (table .entry)) (now (name .entry)) (now (dhcid .entry)) family (now (address .entry)) policy r (now (table .exit)) ⌝ }
+    ensures { λ r. ⌜ calls.Adds mostNames (now (table .entry)) (now (name .entry)) (now (dhcid .entry)) family (now (address .entry)) policy r (now (table .exit)) ⌝ }
 {
     let known = is_family(family) & is_policy(policy);
     let fault = argument_fault(known, table, name, dhcid, family, address);
@@ -33,7 +34,7 @@ pub fn add(
 
 // Deletes this address of the name that the client with this DHCID holds; the DHCID stays. Answers 0. Refusals: 12, 40, 9, 15, 16, 33, 31, 30, 34.
 pub fn remove(table: &mut [u8], name: &[u8], dhcid: &[u8], family: u32, address: &[u8]) -> Answer
-    ensures { λ r. ⌜ calls.Removes 64 (now (table .entry)) (now (name .entry)) (now (dhcid .entry)) family (now (address .entry)) r (now (table .exit)) ⌝ }
+    ensures { λ r. ⌜ calls.Removes mostNames (now (table .entry)) (now (name .entry)) (now (dhcid .entry)) family (now (address .entry)) r (now (table .exit)) ⌝ }
 {
     let fault = argument_fault(is_family(family), table, name, dhcid, family, address);
     if fault != 0 {
@@ -44,7 +45,7 @@ pub fn remove(table: &mut [u8], name: &[u8], dhcid: &[u8], family: u32, address:
 
 // Takes the name out, whoever holds it; later ones move up. Answers 0. Refusals: 40, 9, 33.
 pub fn clear(table: &mut [u8], name: &[u8]) -> Answer
-    ensures { λ r. ⌜ calls.Clears 64 (now (table .entry)) (now (name .entry)) r (now (table .exit)) ⌝ }
+    ensures { λ r. ⌜ calls.Clears mostNames (now (table .entry)) (now (name .entry)) r (now (table .exit)) ⌝ }
 {
     let fault = name_fault(table, name);
     if fault != 0 {

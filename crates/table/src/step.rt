@@ -1,7 +1,7 @@
 // The three steps on a sound table, with sound arguments.
 use crate::arguments::FIRST_WINS;
-use crate::place::Place;
-use crate::place::place_of;
+use crate::slot_for::SlotFor;
+use crate::slot_for::slot_for;
 use base::Answer;
 use base::refusal::ADDRESS_DIFFERS;
 use base::refusal::HELD_BY_ANOTHER;
@@ -22,6 +22,7 @@ ghost use Rattle.slots.specs.Effect as effect;
 ghost use Rattle.slots.specs.Entry.{addressOf, addressSize};
 ghost use Rattle.slots.specs.Form.{IsSlot, slotBytes, Sound};
 ghost use Rattle.slots.specs.Promise.{OfSlot, OfTable, holding, isAddress};
+ghost use Rattle.slots.specs.Sizes.{mostNames, slotSize};
 ghost use Rattle.table.specs.Promise as spec;
 ghost use Rattle.table.specs.Promise.{slotAt};
 ghost use Rattle.table.specs.Steps as step;
@@ -76,7 +77,7 @@ fn add_at(
     address: &[u8],
     policy: u32,
 ) -> Answer
-    requires { ⌜ (at + 312 ≤ length (now table)) × (IsSlot (slotAt (now table) at)) × (length (now dhcid) ≡ 35) × (length (now address) ≡ addressSize family) ⌝ }
+    requires { ⌜ (at + slotSize ≤ length (now table)) × (IsSlot (slotAt (now table) at)) × (length (now dhcid) ≡ 35) × (length (now address) ≡ addressSize family) ⌝ }
     ensures { λ r. ⌜ OfSlot (slotAt (now (table .entry)) at) (λ e. spec.LeavesSlot (now (table .entry)) at (spec.addedAt (holding eqBytes (e .holder) (now (dhcid .entry))) policy e (effect.refreshed family (now (address .entry)) e) (effect.takenOver (now (dhcid .entry)) family (now (address .entry)) e)) r (now (table .exit))) ⌝ }
 {
     let end = at + slot::SIZE;
@@ -85,7 +86,7 @@ fn add_at(
 
 // A new name in the unused slot at `at`.
 fn enter_at(table: &mut [u8], at: usize, name: &[u8], dhcid: &[u8], family: Family, address: &[u8])
-    requires { ⌜ (at + 312 ≤ length (now table)) × (slotAt (now table) at ≡ replicate 312 0) × (length (now name) ≤ 255) × (length (now dhcid) ≡ 35) × (length (now address) ≡ addressSize family) ⌝ }
+    requires { ⌜ (at + slotSize ≤ length (now table)) × (slotAt (now table) at ≡ replicate slotSize 0) × (length (now name) ≤ 255) × (length (now dhcid) ≡ 35) × (length (now address) ≡ addressSize family) ⌝ }
     ensures { λ _. ⌜ now (table .exit) ≡ spec.inSlot (now (table .entry)) at (slotBytes (effect.entered (canonical (now (name .entry))) (now (dhcid .entry)) family (now (address .entry)))) ⌝ }
 {
     let end = at + slot::SIZE;
@@ -94,7 +95,7 @@ fn enter_at(table: &mut [u8], at: usize, name: &[u8], dhcid: &[u8], family: Fami
 
 // A remove from the name whose slot is at `at`.
 fn remove_at(table: &mut [u8], at: usize, dhcid: &[u8], family: Family, address: &[u8]) -> Answer
-    requires { ⌜ (at + 312 ≤ length (now table)) × (IsSlot (slotAt (now table) at)) ⌝ }
+    requires { ⌜ (at + slotSize ≤ length (now table)) × (IsSlot (slotAt (now table) at)) ⌝ }
     ensures { λ r. ⌜ OfSlot (slotAt (now (table .entry)) at) (λ e. spec.LeavesSlot (now (table .entry)) at (spec.removedAt (holding eqBytes (e .holder) (now (dhcid .entry))) (isAddress (addressOf family e) (now (address .entry))) e (effect.deleted family e)) r (now (table .exit))) ⌝ }
 {
     let end = at + slot::SIZE;
@@ -110,17 +111,17 @@ pub(crate) fn add(
     address: &[u8],
     policy: u32,
 ) -> Answer
-    requires { ⌜ (Sound 64 (now table)) × (Proper (now name)) × (wellFormed (now dhcid) ≡ true) × (length (now address) ≡ addressSize family) ⌝ }
-    ensures { λ r. ⌜ OfTable 64 (now (table .entry)) (λ t. spec.Results 64 (step.add 64 eqBytes t (canonical (now (name .entry))) (now (dhcid .entry)) family (now (address .entry)) policy) r (now (table .exit))) ⌝ }
+    requires { ⌜ (Sound mostNames (now table)) × (Proper (now name)) × (wellFormed (now dhcid) ≡ true) × (length (now address) ≡ addressSize family) ⌝ }
+    ensures { λ r. ⌜ OfTable mostNames (now (table .entry)) (λ t. spec.Results mostNames (step.add mostNames eqBytes t (canonical (now (name .entry))) (now (dhcid .entry)) family (now (address .entry)) policy) r (now (table .exit))) ⌝ }
 {
-    let place = place_of(table, name);
-    match place {
-        Place::Held(at) => add_at(table, at, dhcid, family, address, policy),
-        Place::Free(at) => {
+    let slot = slot_for(table, name);
+    match slot {
+        SlotFor::Held(at) => add_at(table, at, dhcid, family, address, policy),
+        SlotFor::Free(at) => {
             enter_at(table, at, name, dhcid, family, address);
             Answer::Accepted(0)
         }
-        Place::Full => Answer::refused(TABLE_FULL),
+        SlotFor::Full => Answer::refused(TABLE_FULL),
     }
 }
 
@@ -132,29 +133,29 @@ pub(crate) fn remove(
     family: Family,
     address: &[u8],
 ) -> Answer
-    requires { ⌜ Sound 64 (now table) ⌝ }
-    ensures { λ r. ⌜ OfTable 64 (now (table .entry)) (λ t. spec.Results 64 (step.remove eqBytes t (canonical (now (name .entry))) (now (dhcid .entry)) family (now (address .entry))) r (now (table .exit))) ⌝ }
+    requires { ⌜ Sound mostNames (now table) ⌝ }
+    ensures { λ r. ⌜ OfTable mostNames (now (table .entry)) (λ t. spec.Results mostNames (step.remove eqBytes t (canonical (now (name .entry))) (now (dhcid .entry)) family (now (address .entry))) r (now (table .exit))) ⌝ }
 {
-    let place = place_of(table, name);
-    match place {
-        Place::Held(at) => remove_at(table, at, dhcid, family, address),
-        Place::Free(_) => Answer::refused(NAME_NOT_HELD),
-        Place::Full => Answer::refused(NAME_NOT_HELD),
+    let slot = slot_for(table, name);
+    match slot {
+        SlotFor::Held(at) => remove_at(table, at, dhcid, family, address),
+        SlotFor::Free(_) => Answer::refused(NAME_NOT_HELD),
+        SlotFor::Full => Answer::refused(NAME_NOT_HELD),
     }
 }
 
 // The step of a clear.
 pub(crate) fn clear(table: &mut [u8], name: &[u8]) -> Answer
-    requires { ⌜ Sound 64 (now table) ⌝ }
-    ensures { λ r. ⌜ OfTable 64 (now (table .entry)) (λ t. spec.Results 64 (step.clear t (canonical (now (name .entry)))) r (now (table .exit))) ⌝ }
+    requires { ⌜ Sound mostNames (now table) ⌝ }
+    ensures { λ r. ⌜ OfTable mostNames (now (table .entry)) (λ t. spec.Results mostNames (step.clear t (canonical (now (name .entry)))) r (now (table .exit))) ⌝ }
 {
-    let place = place_of(table, name);
-    match place {
-        Place::Held(at) => {
+    let slot = slot_for(table, name);
+    match slot {
+        SlotFor::Held(at) => {
             close_up(table, at);
             Answer::Accepted(0)
         }
-        Place::Free(_) => Answer::refused(NAME_NOT_HELD),
-        Place::Full => Answer::refused(NAME_NOT_HELD),
+        SlotFor::Free(_) => Answer::refused(NAME_NOT_HELD),
+        SlotFor::Full => Answer::refused(NAME_NOT_HELD),
     }
 }

@@ -8,12 +8,14 @@ use lib.ListN.{length, take, drop, length-append}
 use lib.Seq.{take-add}
 use Rattle.name.specs.Promise.{textOf}
 use Rattle.grammar.specs.Listing.{RecordType}
-use Rattle.entry.specs.Held.{number}
+use Rattle.grammar.specs.Whole.{rdataSize}
+use Rattle.entry.specs.Held.{typeNumber}
 use Rattle.writer.specs.Line.{line, lines}
 use Rattle.writer.specs.Parts.{restPart}
-use Rattle.writer.proofs.LineLaws.{rdataSize, rest-line, lines-append}
-use Rattle.slots.specs.Fields.{inField, there, fieldSize}
+use Rattle.writer.proofs.LineLaws.{rest-line, lines-append}
+use Rattle.slots.specs.Fields.{inField, there}
 use Rattle.slots.specs.Form.{TableEntry, field, WellFormed}
+use Rattle.slots.specs.Sizes.{fieldSize}
 use Rattle.slots.specs.declared.Rtype.{Rtype}
 use Rattle.slots.specs.declared.Rtype.the-variants.{A, Aaaa, Dhcid}
 use Rattle.records.proofs.LengthLaws.{entry-most}
@@ -30,7 +32,7 @@ module _ (n : List ℕ) (k : RecordType) where
   line-none (some x) h = absurd (true≢false h)
 
   line-some : (o : Option (List ℕ)) (bs : List ℕ) → there o ≡ true → length bs ≡ 35 → take (rdataSize k) bs ≡ field (rdataSize k) o
-      → lines (recordIf n k o) ≡ textOf n ++ restPart (number k) bs
+      → lines (recordIf n k o) ≡ textOf n ++ restPart (typeNumber k) bs
   unfolding lines
   line-some none bs h long first = absurd (false≢true h)
   line-some (some x) bs h long first = append-nil (line (record { owner = n; rtype = k; rdata = x })) ∙ sym (rest-line k x bs long first n)
@@ -46,7 +48,7 @@ module _ (k : Rtype) (e : TableEntry) where
   field-none h = line-none (e .name) (typeOf k) (inField k e) h
 
   pub field-some : (bs : List ℕ) → there (inField k e) ≡ true → length bs ≡ 35 → take (fieldSize k) bs ≡ field (fieldSize k) (inField k e)
-      → fieldText k e ≡ textOf (e .name) ++ restPart (number (typeOf k)) bs
+      → fieldText k e ≡ textOf (e .name) ++ restPart (typeNumber (typeOf k)) bs
   unfolding fieldText
   field-some bs h long first = line-some (e .name) (typeOf k) (inField k e) bs h long (rw (sym (same-size k)) first)
 

@@ -11,10 +11,11 @@ use Rattle.base.specs.Bytes.{overlay}
 use Rattle.base.proofs.Bytes.{overlay-append, overlay-none}
 use Rattle.name.specs.Promise.{textOf}
 use Rattle.name.proofs.DottedLaws.{length-textOf}
-use Rattle.entry.specs.Held.{number}
+use Rattle.entry.specs.Held.{typeNumber}
 use Rattle.writer.specs.Parts.{restPart}
-use Rattle.slots.specs.Fields.{inField, there, fieldSize}
+use Rattle.slots.specs.Fields.{inField, there}
 use Rattle.slots.specs.Form.{TableEntry, WellFormed, field, slotBytes, IsSlot, IsTable}
+use Rattle.slots.specs.Sizes.{fieldSize, slotSize, mostNames}
 use Rattle.slots.specs.declared.Rtype.{Rtype}
 use Rattle.slots.specs.declared.Rtype.the-variants.{A, Aaaa, Dhcid}
 use Rattle.slots.proofs.NameLaws.{EntryAt, entry-at}
@@ -39,7 +40,7 @@ puts-on {x} {y} {at} {middle} {end} {to} {d} {u} within p q =
 
 -- ---- a record that is there, by its name n, the number v of its type and 35 bytes bs that begin with its data
 
-module _ (k : Rtype) (e : TableEntry) (bs : List ℕ) {n : List ℕ} {v : ℕ} (name : n ≡ e .name) (type : v ≡ number (typeOf k)) (held : there (inField k e) ≡ true)
+module _ (k : Rtype) (e : TableEntry) (bs : List ℕ) {n : List ℕ} {v : ℕ} (name : n ≡ e .name) (type : v ≡ typeNumber (typeOf k)) (held : there (inField k e) ≡ true)
     (from : (length bs ≡ 35) × (take (fieldSize k) bs ≡ field (fieldSize k) (inField k e))) where
   line-parts : fieldText k e ≡ textOf n ++ restPart v bs
   line-parts = field-some k e bs held (from .0) (from .1) ∙ ap₂ (λ (m : List ℕ) (w : ℕ). textOf m ++ restPart w bs) (sym name) (sym type)
@@ -128,18 +129,18 @@ pub record UsedSlot (t : List TableEntry) (i : ℕ) (s : List ℕ) : Type 0 wher
   pub well-formed : WellFormed entry
   pub form : s ≡ slotBytes entry
 
-pub used-slot : (t : List TableEntry) (b : List ℕ) (h : IsTable 64 t b) (i : ℕ) → i ≤ length t → i < 64 → (getD b (312 * i) 0 ≡ 0 → ⊥) → UsedSlot t i (take (312 * i + 312 - 312 * i) (drop (312 * i) b))
+pub used-slot : (t : List TableEntry) (b : List ℕ) (h : IsTable mostNames t b) (i : ℕ) → i ≤ length t → i < mostNames → (getD b (slotSize * i) 0 ≡ 0 → ⊥) → UsedSlot t i (take (slotSize * i + slotSize - slotSize * i) (drop (slotSize * i) b))
 used-slot t b h i low more nz =
-    let u = some-at 64 t b h i low more nz in
-    let size : 312 * i + 312 - 312 * i ≡ 312 = omega arith in
+    let u = some-at mostNames t b h i low more nz in
+    let size : slotSize * i + slotSize - slotSize * i ≡ slotSize = omega arith in
     record {
       entry = u .entry;
       later = u .later;
       at = entry-at t i (u .entry) (u .later) (u .order);
       well-formed = u .well-formed;
-      form = ap (λ (n : ℕ). take n (drop (312 * i) b)) size ∙ u .slot;
+      form = ap (λ (n : ℕ). take n (drop (slotSize * i) b)) size ∙ u .slot;
     }
 
 -- a table of 64 names has a listing of at most 56,512 bytes
-pub listing-short : {t : List TableEntry} {b : List ℕ} → IsTable 64 t b → length (listingOf t) ≤ 56512
+pub listing-short : {t : List TableEntry} {b : List ℕ} → IsTable mostNames t b → length (listingOf t) ≤ 883 * mostNames
 listing-short {t} h = omega (arith, listing-most t (h .each), h .room)

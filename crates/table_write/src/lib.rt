@@ -14,16 +14,17 @@ use writer::rest_length;
 ghost use mathlib.Core.Path.{_≡_};
 ghost use lib.ListN.{length};
 ghost use Rattle.base.specs.Bytes.{overlay};
-ghost use Rattle.entry.specs.Held.{number};
+ghost use Rattle.entry.specs.Held.{typeNumber};
 ghost use Rattle.slots.specs.Form.{IsSlot};
 ghost use Rattle.slots.specs.Promise.{OfSlot, Entries, OfTable};
+ghost use Rattle.slots.specs.Sizes.{mostNames};
 ghost use Rattle.records.specs.Written.{listingOf};
 ghost use Rattle.records.specs.Calls.{Writes};
 ghost use Rattle.table_write.specs.Promise.{typeOf, fieldText, entryText, SlotFits, TableFits, Puts};
 
 // The number of a type.
 fn rtype_number(rtype: Rtype) -> u8
-    ensures { λ r. ⌜ r ≡ number (typeOf rtype) ⌝ }
+    ensures { λ r. ⌜ r ≡ typeNumber (typeOf rtype) ⌝ }
 {
     match rtype {
         Rtype::A => TYPE_A,
@@ -57,8 +58,8 @@ fn slot_length(slot: &[u8]) -> usize
 
 // How many bytes the listing of a table has.
 fn listing_length(table: &[u8]) -> usize
-    requires { ⌜ Entries 64 (now table) ⌝ }
-    ensures { λ r. ⌜ OfTable 64 (now (table .entry)) (λ t. r ≡ length (listingOf t)) ⌝ }
+    requires { ⌜ Entries mostNames (now table) ⌝ }
+    ensures { λ r. ⌜ OfTable mostNames (now (table .entry)) (λ t. r ≡ length (listingOf t)) ⌝ }
 {
     let mut sum: usize = 0;
     let mut i: usize = 0;
@@ -104,8 +105,8 @@ fn put_slot(to: &mut [u8], at: usize, slot: &[u8]) -> usize
 
 // Writes the listing of a table, for which there is room.
 fn put_listing(to: &mut [u8], table: &[u8])
-    requires { ⌜ TableFits 64 (now table) (now to) ⌝ }
-    ensures { λ _. ⌜ OfTable 64 (now (table .entry)) (λ t. now (to .exit) ≡ overlay (now (to .entry)) 0 (listingOf t)) ⌝ }
+    requires { ⌜ TableFits mostNames (now table) (now to) ⌝ }
+    ensures { λ _. ⌜ OfTable mostNames (now (table .entry)) (λ t. now (to .exit) ≡ overlay (now (to .entry)) 0 (listingOf t)) ⌝ }
 {
     let mut at: usize = 0;
     let mut i: usize = 0;
@@ -122,7 +123,7 @@ fn put_listing(to: &mut [u8], table: &[u8])
 // Writes a sound table as a listing: per name A, AAAA and DHCID, as far as it has them. Answers how many bytes that is; the rest of `out` is unchanged.
 // Refusals: 40, 13; a refused call has written nothing.
 pub fn write(table: &[u8], out: &mut [u8]) -> Answer
-    ensures { λ r. ⌜ Writes 64 (now (table .entry)) (now (out .entry)) r (now (out .exit)) ⌝ }
+    ensures { λ r. ⌜ Writes mostNames (now (table .entry)) (now (out .entry)) r (now (out .exit)) ⌝ }
 {
     if !is_sound(table) {
         return Answer::refused(TABLE_NOT_SOUND);

@@ -7,17 +7,18 @@ use borrow.Author.Needs.{needs}
 use borrow.Author.Tests.{not-true, not-false}
 use Rattle.base.proofs.Tests.{yes-by, no-by}
 use Rattle.slots.proofs.TableLaws.{Reached, reached-none, reached-more, reached-all, no-slot, unused-decides}
+use Rattle.slots.specs.Sizes.{mostNames, slotSize}
 use Rattle.slot_row.proofs.are_slots.Statement.{statement}
 use Rattle.slot_row.proofs.are_slots.Tie as tie
 
 abbrev Inv-loop : tie.InvT-loop
-Inv-loop table i₀ i = Reached 64 table i
+Inv-loop table i₀ i = Reached mostNames table i
 
 abbrev μ-loop : tie.MeasureT-loop
-μ-loop table i₀ i = 64 - i
+μ-loop table i₀ i = mostNames - i
 
 loop-holds : tie.Need-loop-holds Inv-loop μ-loop
-loop-holds c = reached-none 64 _
+loop-holds c = reached-none mostNames _
 
 mul-at : tie.Need-mul-at Inv-loop μ-loop
 mul-at c = omega arith
@@ -44,8 +45,8 @@ returns c =
     let s = l .before .before in
     let b = s .args .table .now in
     let i = l .loop .i in
-    unused-decides 64 b i (l .loop .inv) (k .before .loop-test .taken) (c .before .before .if1 .taken) (s .pre) _ _
-    (take-all (length b - 312 * i) (drop (312 * i) b) (simp length-drop (omega arith))) (c .are-zeros-at-once .ensures)
+    unused-decides mostNames b i (l .loop .inv) (k .before .loop-test .taken) (c .before .before .if1 .taken) (s .pre) _ _
+    (take-all (length b - slotSize * i) (drop (slotSize * i) b) (simp length-drop (omega arith))) (c .are-zeros-at-once .ensures)
 
 add-is-slot : tie.Need-add-is-slot Inv-loop μ-loop
 add-is-slot c = omega arith
@@ -68,10 +69,10 @@ returns-2 c =
     let k = f .before in
     let l = k .before .before in
     let b = l .before .before .args .table .now in
-    let at = 312 * l .loop .i in
-    let size : at + 312 - at ≡ 312 = omega arith in
+    let at = slotSize * l .loop .i in
+    let size : at + slotSize - at ≡ slotSize = omega arith in
     let no-slot-here = c .before .is-slot .ensures .if-false (not-true _ (c .if2 .taken)) in
-    no-by (no-slot 64 b (l .loop .i) (l .loop .inv) (k .before .loop-test .taken) (f .if1 .left) (λ s. no-slot-here (rw size s)))
+    no-by (no-slot mostNames b (l .loop .i) (l .loop .inv) (k .before .loop-test .taken) (f .if1 .left) (λ s. no-slot-here (rw size s)))
 
 add-i : tie.Need-add-i Inv-loop μ-loop
 add-i c = omega arith
@@ -85,15 +86,15 @@ loop-again c =
     let k = f .before in
     let l = k .before .before in
     let b = l .before .before .args .table .now in
-    let at = 312 * l .loop .i in
-    let size : at + 312 - at ≡ 312 = omega arith in
-    reached-more 64 b (l .loop .i) (l .loop .inv) (k .before .loop-test .taken) (f .if1 .left)
+    let at = slotSize * l .loop .i in
+    let size : at + slotSize - at ≡ slotSize = omega arith in
+    reached-more mostNames b (l .loop .i) (l .loop .inv) (k .before .loop-test .taken) (f .if1 .left)
     (rw size at (c .before .is-slot .ensures .if-true (not-false _ (c .if2 .left))))
 
 returns-3 : tie.Need-returns-3 Inv-loop μ-loop
 returns-3 c =
     let l = c .before in
-    yes-by (reached-all 64 _ (l .loop .i) (l .loop .inv) (c .loop-test .left) (l .before .before .pre))
+    yes-by (reached-all mostNames _ (l .loop .i) (l .loop .inv) (c .loop-test .left) (l .before .before .pre))
 
 pub are-slots-spec : {M : Type 1} → statement M
 are-slots-spec =

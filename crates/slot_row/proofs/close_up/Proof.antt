@@ -5,6 +5,7 @@ use lib.ListN.{replicate}
 use borrow.Author.Needs.{needs}
 use Rattle.base.specs.Bytes.{overlay}
 use Rattle.slots.proofs.TableLaws.{closed-up}
+use Rattle.slots.specs.Sizes.{slotSize}
 use Rattle.slot_row.proofs.close_up.Statement.{statement}
 use Rattle.slot_row.proofs.close_up.Tie as tie
 
@@ -25,9 +26,9 @@ returns c =
     let m = c .before .before .before .before .before .before in
     let s = m .before .before .before in
     let b = s .args .table .now in
-    let zeros : List ℕ = replicate 312 0 in
+    let zeros : List ℕ = replicate slotSize 0 in
     c .before .before .put-zeros .ensures
-    ∙ (λ i. overlay (m .move-up .ensures i) (m .move-up .kept .0 i - 312) zeros)
+    ∙ (λ i. overlay (m .move-up .ensures i) (m .move-up .kept .0 i - slotSize) zeros)
     ∙ closed-up b (s .args .at) (s .pre)
 
 pub close-up-spec : {M : Type 1} → statement M

@@ -2,11 +2,12 @@ use borrow.Author.Needs.{needs}
 use borrow.Author.Tests.{not-true, not-false}
 use Rattle.base.proofs.Tests.{no-by}
 use Rattle.slots.proofs.TableLaws.{length-table}
+use Rattle.slots.specs.Sizes.{mostNames}
 use Rattle.slot_row.proofs.is_sound.Statement.{statement}
 use Rattle.slot_row.proofs.is_sound.Tie as tie
 
 returns : tie.Need-returns
-returns c = no-by (λ s. c .if1 .taken (length-table 64 (s .table) _ (s .slots)))
+returns c = no-by (λ s. c .if1 .taken (length-table mostNames (s .table) _ (s .slots)))
 
 are-slots-requires : tie.Need-are-slots-requires
 are-slots-requires c κs = search needs

@@ -4,11 +4,12 @@ use native.Mathlib.Omega.{arith}
 use lib.ListN.{drop, length-drop}
 use Rattle.base.proofs.Fill.{Copied, copied-none, copied-more, copied-all}
 use Rattle.slots.proofs.TableLaws.{read-behind}
+use Rattle.slots.specs.Sizes.{slotSize}
 use Rattle.slot_row.proofs.move_up.Statement.{statement}
 use Rattle.slot_row.proofs.move_up.Tie as tie
 
 abbrev Inv-loop : tie.InvT-loop
-Inv-loop table₀ at behind count i₀ table i = Copied table₀ at (drop (at + 312) table₀) table i
+Inv-loop table₀ at behind count i₀ table i = Copied table₀ at (drop (at + slotSize) table₀) table i
 
 abbrev μ-loop : tie.MeasureT-loop
 μ-loop table₀ at behind count i₀ table i = count - i
@@ -20,7 +21,7 @@ sub-count : tie.Need-sub-count Inv-loop μ-loop
 sub-count c = omega arith
 
 loop-holds : tie.Need-loop-holds Inv-loop μ-loop
-loop-holds c = copied-none (now (c .args .table)) (c .args .at) (drop (c .args .at + 312) (now (c .args .table)))
+loop-holds c = copied-none (now (c .args .table)) (c .args .at) (drop (c .args .at + slotSize) (now (c .args .table)))
 
 add-table : tie.Need-add-table Inv-loop μ-loop
 add-table c = omega arith
@@ -46,8 +47,8 @@ loop-again c =
     let s = l .before in
     let b = now (s .args .table) in
     let at = s .args .at in
-    let size = length-drop (at + 312) b in
-    copied-more b at (drop (at + 312) b) _ (l .loop .i) _ (l .loop .inv) (read-behind b at (l .loop .table) (l .loop .i) (s .pre) (l .loop .inv)) (omega arith) (omega arith)
+    let size = length-drop (at + slotSize) b in
+    copied-more b at (drop (at + slotSize) b) _ (l .loop .i) _ (l .loop .inv) (read-behind b at (l .loop .table) (l .loop .i) (s .pre) (l .loop .inv)) (omega arith) (omega arith)
 
 same-length : tie.Need-same-length Inv-loop μ-loop
 same-length c = c .before .loop .inv .long
@@ -57,7 +58,7 @@ returns c =
     let l = c .before in
     let s = l .before in
     let b = now (s .args .table) in
-    copied-all b (s .args .at) (drop (s .args .at + 312) b) _ (l .loop .i) (l .loop .inv) (omega (arith, length-drop (s .args .at + 312) b))
+    copied-all b (s .args .at) (drop (s .args .at + slotSize) b) _ (l .loop .i) (l .loop .inv) (omega (arith, length-drop (s .args .at + slotSize) b))
 
 pub move-up-spec : {M : Type 1} → statement M
 move-up-spec =

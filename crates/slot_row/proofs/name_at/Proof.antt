@@ -3,6 +3,7 @@ use mathlib.Core.Path.{_≡_, ap}
 use native.Mathlib.Omega.{arith}
 use lib.ListN.{take, drop, getD}
 use Rattle.slots.specs.Promise.{nameAt}
+use Rattle.slots.specs.Sizes.{slotSize}
 use borrow.Author.Needs.{needs}
 use Rattle.slot_row.proofs.name_at.Statement.{statement}
 use Rattle.slot_row.proofs.name_at.Tie as tie
@@ -14,13 +15,13 @@ shared-slice-read-len : tie.Need-shared-slice-read-len
 shared-slice-read-len c = search needs
 
 cast-len : tie.Need-cast-len
-cast-len c = omega (arith, c .shared-slice-known .given (312 * c .before .args .i))
+cast-len c = omega (arith, c .shared-slice-known .given (slotSize * c .before .args .i))
 
 add-start : tie.Need-add-start
 add-start c = search needs
 
 add-result : tie.Need-add-result
-add-result c = omega (arith, c .shared-slice-known .given (312 * c .before .args .i))
+add-result c = omega (arith, c .shared-slice-known .given (slotSize * c .before .args .i))
 
 sub-result : tie.Need-sub-result
 sub-result c = search needs
@@ -29,13 +30,13 @@ part-result-start : tie.Need-part-result-start
 part-result-start c = search needs
 
 part-result-end : tie.Need-part-result-end
-part-result-end c = omega (arith, c .shared-slice-known .given (312 * c .before .args .i))
+part-result-end c = omega (arith, c .shared-slice-known .given (slotSize * c .before .args .i))
 
 returns : tie.Need-returns
 unfolding nameAt
 returns c =
     let a = c .before .before .args in
-    let at = 312 * a .i in
+    let at = slotSize * a .i in
     let v = getD (a .table .now) at 0 in
     let size : at + 1 + v - (at + 1) ≡ v = omega arith in
     ap (λ (n : ℕ). take n (drop (at + 1) (a .table .now))) size

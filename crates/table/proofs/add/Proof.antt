@@ -4,6 +4,7 @@ use Rattle.base.specs.Bytes.{eqBytes}
 use Rattle.base.proofs.Tests.{passes, both}
 use Rattle.name.specs.Name.{canonical}
 use Rattle.slots.specs.Entry.{addressSize}
+use Rattle.slots.specs.Sizes.{mostNames}
 use Rattle.table.specs.Steps as step
 use Rattle.table.specs.Promise.{Results}
 use Rattle.table.specs.Calls.{nameTests, clientTests, argumentTests, Adds}
@@ -31,13 +32,13 @@ returns : tie.Need-returns
 unfolding Adds
 returns c =
     let a = c .before .before .before .before .before .before .before .before .before .before .args in
-    let ts = nameTests 64 (a .table .now) (a .name .now) ++ clientTests (a .dhcid .now) (a .family) (a .address .now) in
+    let ts = nameTests mostNames (a .table .now) (a .name .now) ++ clientTests (a .dhcid .now) (a .family) (a .address .now) in
     let known = both (c .before .before .before .before .before .is-family .result) (c .before .before .before .before .is-policy .result) (c .before .before .before .before .before .is-family .ensures) (c .before .before .before .before .is-policy .ensures) in
     let forth = known .if-true in
     let back = passes _ known in
     let g = c .before .before .argument-fault in
-    let fault = the-fault (argumentTests 64 _ (a .table .now) (a .name .now) (a .dhcid .now) (a .family) (a .address .now)) (g .result) (c .before .if1 .taken) (g .ensures) in
-    faulty 64 (argumentTests 64 _ (a .table .now) (a .name .now) (a .dhcid .now) (a .family) (a .address .now)) _ _ _ _ (g .result) (fault-as 12 forth back ts (g .result) fault) (c .refused .ensures) refl
+    let fault = the-fault (argumentTests mostNames _ (a .table .now) (a .name .now) (a .dhcid .now) (a .family) (a .address .now)) (g .result) (c .before .if1 .taken) (g .ensures) in
+    faulty mostNames (argumentTests mostNames _ (a .table .now) (a .name .now) (a .dhcid .now) (a .family) (a .address .now)) _ _ _ _ (g .result) (fault-as 12 forth back ts (g .result) fault) (c .refused .ensures) refl
 
 family-of-requires : tie.Need-family-of-requires
 family-of-requires c κs = search needs
@@ -45,7 +46,7 @@ family-of-requires c κs = search needs
 add-requires : tie.Need-add-requires
 add-requires c κs =
     let a = c .before .before .before .before .before .before .before .before .before .before .before .args in
-    let all = all-hold (argumentTests 64 _ (a .table .now) (a .name .now) (a .dhcid .now) (a .family) (a .address .now)) _ (c .before .before .if1 .left) (c .before .before .before .argument-fault .ensures) in
+    let all = all-hold (argumentTests mostNames _ (a .table .now) (a .name .now) (a .dhcid .now) (a .family) (a .address .now)) _ (c .before .before .if1 .left) (c .before .before .before .argument-fault .ensures) in
     (all .1 .0, all .1 .1 .0, all .1 .1 .1 .0, all .1 .1 .1 .1 .0 ∙ ap addressSize (sym (c .family-of .ensures)))
 
 same-length-2 : tie.Need-same-length-2
@@ -55,14 +56,14 @@ returns-2 : tie.Need-returns-2
 unfolding Adds
 returns-2 c =
     let a = c .before .before .before .before .before .before .before .before .before .before .before .before .before .before .args in
-    let ts = nameTests 64 (a .table .now) (a .name .now) ++ clientTests (a .dhcid .now) (a .family) (a .address .now) in
+    let ts = nameTests mostNames (a .table .now) (a .name .now) ++ clientTests (a .dhcid .now) (a .family) (a .address .now) in
     let known = both (c .before .before .before .before .before .before .before .before .before .is-family .result) (c .before .before .before .before .before .before .before .before .is-policy .result) (c .before .before .before .before .before .before .before .before .before .is-family .ensures) (c .before .before .before .before .before .before .before .before .is-policy .ensures) in
     let forth = known .if-true in
     let back = passes _ known in
-    let all = all-hold (argumentTests 64 _ (a .table .now) (a .name .now) (a .dhcid .now) (a .family) (a .address .now)) _ (c .before .before .before .before .before .if1 .left) (c .before .before .before .before .before .before .argument-fault .ensures) in
+    let all = all-hold (argumentTests mostNames _ (a .table .now) (a .name .now) (a .dhcid .now) (a .family) (a .address .now)) _ (c .before .before .before .before .before .if1 .left) (c .before .before .before .before .before .before .argument-fault .ensures) in
     let s = all .1 .0 in
-    stepped 64 (argumentTests 64 _ (a .table .now) (a .name .now) (a .dhcid .now) (a .family) (a .address .now)) _ _ _ _ (hold-as 12 forth back ts all) s
-    (subst (λ f. Results 64 (step.add 64 eqBytes (s .table) (canonical (a .name .now)) (a .dhcid .now) f (a .address .now) (a .policy)) (c .before .before .add .result) (c .before .before .add .last .0)) (c .before .before .before .family-of .ensures) (c .before .before .add .ensures (s .table) (s .slots)))
+    stepped mostNames (argumentTests mostNames _ (a .table .now) (a .name .now) (a .dhcid .now) (a .family) (a .address .now)) _ _ _ _ (hold-as 12 forth back ts all) s
+    (subst (λ f. Results mostNames (step.add mostNames eqBytes (s .table) (canonical (a .name .now)) (a .dhcid .now) f (a .address .now) (a .policy)) (c .before .before .add .result) (c .before .before .add .last .0)) (c .before .before .before .family-of .ensures) (c .before .before .add .ensures (s .table) (s .slots)))
 
 pub add-spec : {M : Type 1} → statement M
 add-spec =

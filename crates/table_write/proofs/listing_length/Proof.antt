@@ -2,16 +2,17 @@ use Prim.Native.Nat.{_-_}
 use native.Mathlib.Omega.{arith}
 use Rattle.slots.specs.Form.{IsSlot}
 use Rattle.slots.specs.Promise.{OfTable}
+use Rattle.slots.specs.Sizes.{mostNames}
 use Rattle.slots.proofs.TableLaws.{length-table, no-more, none-at}
 use Rattle.table_write.proofs.WriteLaws.{Measured, measured-none, measured-end, measured-more, measured-within, used-slot, listing-short}
 use Rattle.table_write.proofs.listing_length.Statement.{statement}
 use Rattle.table_write.proofs.listing_length.Tie as tie
 
 abbrev Inv-loop : tie.InvT-loop
-Inv-loop table sum₀ i₀ sum i = OfTable 64 table (λ t. Measured t i sum)
+Inv-loop table sum₀ i₀ sum i = OfTable mostNames table (λ t. Measured t i sum)
 
 abbrev μ-loop : tie.MeasureT-loop
-μ-loop table sum₀ i₀ sum i = 64 - i
+μ-loop table sum₀ i₀ sum i = mostNames - i
 
 loop-holds : tie.Need-loop-holds Inv-loop μ-loop
 loop-holds c = λ t h. measured-none t
@@ -22,18 +23,18 @@ mul-start c = omega arith
 shared-slice-read-if1 : tie.Need-shared-slice-read-if1 Inv-loop μ-loop
 shared-slice-read-if1 c =
     let start = c .before .before .before .before in
-    omega (arith, length-table 64 (start .pre .0) _ (start .pre .1))
+    omega (arith, length-table mostNames (start .pre .0) _ (start .pre .1))
 
 returns : tie.Need-returns Inv-loop μ-loop
 returns c =
     λ t h.
     let m = c .before .before .before .loop .inv t h in
-    measured-end m (none-at 64 t _ h (c .before .before .before .loop .i) (m .low) (c .if1 .taken))
+    measured-end m (none-at mostNames t _ h (c .before .before .before .loop .i) (m .low) (c .if1 .taken))
 
 add-slot-length : tie.Need-add-slot-length Inv-loop μ-loop
 add-slot-length c =
     let start = c .before .before .before .before .before in
-    omega (arith, length-table 64 (start .pre .0) _ (start .pre .1))
+    omega (arith, length-table mostNames (start .pre .0) _ (start .pre .1))
 
 sub-slot-length : tie.Need-sub-slot-length Inv-loop μ-loop
 sub-slot-length c = omega arith
@@ -44,7 +45,7 @@ part-slot-length-start c = omega arith
 part-slot-length-end : tie.Need-part-slot-length-end Inv-loop μ-loop
 part-slot-length-end c =
     let start = c .before .before .before .before .before in
-    omega (arith, length-table 64 (start .pre .0) _ (start .pre .1))
+    omega (arith, length-table mostNames (start .pre .0) _ (start .pre .1))
 
 slot-length-requires : tie.Need-slot-length-requires Inv-loop μ-loop
 unfolding IsSlot
@@ -87,7 +88,7 @@ returns-2 : tie.Need-returns-2 Inv-loop μ-loop
 returns-2 c =
     λ t h.
     let m = c .before .loop .inv t h in
-    measured-end m (no-more 64 t _ h (c .before .loop .i) (m .low) (c .loop-test .left))
+    measured-end m (no-more mostNames t _ h (c .before .loop .i) (m .low) (c .loop-test .left))
 
 pub listing-length-spec : {M : Type 1} → statement M
 listing-length-spec =

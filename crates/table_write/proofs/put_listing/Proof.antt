@@ -3,16 +3,17 @@ use mathlib.Core.Path.{_≡_, refl, _∙_}
 use native.Mathlib.Omega.{arith}
 use lib.ListN.{length}
 use Rattle.slots.specs.Promise.{OfTable}
+use Rattle.slots.specs.Sizes.{mostNames}
 use Rattle.slots.proofs.TableLaws.{length-table, no-more, none-at}
 use Rattle.table_write.proofs.WriteLaws.{Written, written-none, written-end, written-more, measured-within, used-slot}
 use Rattle.table_write.proofs.put_listing.Statement.{statement}
 use Rattle.table_write.proofs.put_listing.Tie as tie
 
 abbrev Inv-loop : tie.InvT-loop
-Inv-loop to₀ table at₀ i₀ to at i = (length to ≡ length to₀) × (OfTable 64 table (λ t. Written t to₀ to i at))
+Inv-loop to₀ table at₀ i₀ to at i = (length to ≡ length to₀) × (OfTable mostNames table (λ t. Written t to₀ to i at))
 
 abbrev μ-loop : tie.MeasureT-loop
-μ-loop to₀ table at₀ i₀ to at i = 64 - i
+μ-loop to₀ table at₀ i₀ to at i = mostNames - i
 
 loop-holds : tie.Need-loop-holds Inv-loop μ-loop
 loop-holds c = (refl, λ t h. written-none t _)
@@ -23,7 +24,7 @@ mul-start c = omega arith
 shared-slice-read-if1 : tie.Need-shared-slice-read-if1 Inv-loop μ-loop
 shared-slice-read-if1 c =
     let start = c .before .before .before .before .before in
-    omega (arith, length-table 64 (start .pre .table) _ (start .pre .slots))
+    omega (arith, length-table mostNames (start .pre .table) _ (start .pre .slots))
 
 same-length : tie.Need-same-length Inv-loop μ-loop
 same-length c = c .before .before .before .loop .inv .0
@@ -32,12 +33,12 @@ returns : tie.Need-returns Inv-loop μ-loop
 returns c =
     λ t h.
     let w = c .before .before .before .loop .inv .1 t h in
-    written-end w (none-at 64 t _ h (c .before .before .before .loop .i) (w .measured .low) (c .if1 .taken))
+    written-end w (none-at mostNames t _ h (c .before .before .before .loop .i) (w .measured .low) (c .if1 .taken))
 
 add-put-slot : tie.Need-add-put-slot Inv-loop μ-loop
 add-put-slot c =
     let start = c .before .before .before .before .before .before .before in
-    omega (arith, length-table 64 (start .pre .table) _ (start .pre .slots))
+    omega (arith, length-table mostNames (start .pre .table) _ (start .pre .slots))
 
 sub-put-slot : tie.Need-sub-put-slot Inv-loop μ-loop
 sub-put-slot c = omega arith
@@ -48,7 +49,7 @@ part-put-slot-start c = omega arith
 part-put-slot-end : tie.Need-part-put-slot-end Inv-loop μ-loop
 part-put-slot-end c =
     let start = c .before .before .before .before .before .before .before in
-    omega (arith, length-table 64 (start .pre .table) _ (start .pre .slots))
+    omega (arith, length-table mostNames (start .pre .table) _ (start .pre .slots))
 
 put-slot-requires : tie.Need-put-slot-requires Inv-loop μ-loop
 put-slot-requires c κs =
@@ -87,7 +88,7 @@ returns-2 : tie.Need-returns-2 Inv-loop μ-loop
 returns-2 c =
     λ t h.
     let w = c .before .loop .inv .1 t h in
-    written-end w (no-more 64 t _ h (c .before .loop .i) (w .measured .low) (c .loop-test .left))
+    written-end w (no-more mostNames t _ h (c .before .loop .i) (w .measured .low) (c .loop-test .left))
 
 pub put-listing-spec : {M : Type 1} → statement M
 put-listing-spec =

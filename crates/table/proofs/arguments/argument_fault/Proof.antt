@@ -5,6 +5,7 @@ use borrow.Author.Tests.{not-true, not-false, eqb-false}
 use Rattle.base.specs.Dhcid.{wellFormed}
 use Rattle.base.specs.Order.{Test}
 use Rattle.slots.specs.Entry.{addressSize}
+use Rattle.slots.specs.Sizes.{mostNames}
 use Rattle.table.specs.Calls.{nameTests, clientTests}
 use Rattle.table.proofs.ArgumentLaws.{all-hold, the-fault, first-fails, part-fails, rest-fails, none-fails}
 use borrow.Author.Needs.{needs}
@@ -15,7 +16,7 @@ returns : tie.Need-returns
 returns c =
     let a = c .before .before .before .before .before .args in
     let t : Test = record { number = 12; holds = a .known ≡ true } in
-    let ts = nameTests 64 (a .table .now) (a .name .now) in
+    let ts = nameTests mostNames (a .table .now) (a .name .now) in
     let us = clientTests (a .dhcid .now) (a .family) (a .address .now) in
     first-fails t ts us (eqb-false 12 0 refl) (λ known. false≢true (sym (not-true (a .known) (c .if1 .taken)) ∙ known))
 
@@ -26,7 +27,7 @@ returns-2 : tie.Need-returns-2
 returns-2 c =
     let a = c .before .before .before .before .before .before .before .args in
     let t : Test = record { number = 12; holds = a .known ≡ true } in
-    let ts = nameTests 64 (a .table .now) (a .name .now) in
+    let ts = nameTests mostNames (a .table .now) (a .name .now) in
     let us = clientTests (a .dhcid .now) (a .family) (a .address .now) in
     let n = c .before .name-fault .result in
     part-fails t ts us (not-false (a .known) (c .before .before .if1 .left)) n (c .if2 .taken) (the-fault ts n (c .if2 .taken) (c .before .name-fault .ensures))
@@ -38,7 +39,7 @@ returns-3 : tie.Need-returns-3
 returns-3 c =
     let a = c .before .before .before .before .before .before .before .before .before .args in
     let t : Test = record { number = 12; holds = a .known ≡ true } in
-    let ts = nameTests 64 (a .table .now) (a .name .now) in
+    let ts = nameTests mostNames (a .table .now) (a .name .now) in
     let us = clientTests (a .dhcid .now) (a .family) (a .address .now) in
     let f = c .before .before .before in
     let w = c .before .is-well-formed in
@@ -56,7 +57,7 @@ returns-4 : tie.Need-returns-4
 returns-4 c =
     let a = c .before .before .before .before .before .before .before .before .before .before .before .before .args in
     let t : Test = record { number = 12; holds = a .known ≡ true } in
-    let ts = nameTests 64 (a .table .now) (a .name .now) in
+    let ts = nameTests mostNames (a .table .now) (a .name .now) in
     let us = clientTests (a .dhcid .now) (a .family) (a .address .now) in
     let f = c .before .before .before .before .before .before in
     let w = c .before .before .before .before .is-well-formed in
@@ -70,7 +71,7 @@ returns-5 : tie.Need-returns-5
 returns-5 c =
     let a = c .before .before .before .before .before .before .before .before .before .before .before .before .args in
     let t : Test = record { number = 12; holds = a .known ≡ true } in
-    let ts = nameTests 64 (a .table .now) (a .name .now) in
+    let ts = nameTests mostNames (a .table .now) (a .name .now) in
     let us = clientTests (a .dhcid .now) (a .family) (a .address .now) in
     let f = c .before .before .before .before .before .before in
     let w = c .before .before .before .before .is-well-formed in

@@ -11,10 +11,11 @@ use lib.Seq.{drop-at, drop-length}
 use borrow.Author.Tests.{lt-ltb, le-ltb}
 use Rattle.slots.specs.Entry.{position}
 use Rattle.slots.specs.Form.{TableEntry, IsTable}
+use Rattle.slots.specs.Sizes.{slotSize}
 use Rattle.slots.proofs.TableLaws.{none-at, some-at}
 use Rattle.table.specs.Steps.{find}
-use Rattle.table.specs.Promise.{placedBy, placeOf}
-use Rattle.table.specs.declared.place.Place.the-variants.{Held, Free, Full}
+use Rattle.table.specs.Promise.{slotBy, slotFor}
+use Rattle.table.specs.declared.slot_for.SlotFor.the-variants.{Held, Free, Full}
 use Rattle.table.proofs.FoundLaws.{Standing, standing}
 
 pub position-in : (n : List ℕ) (t : List TableEntry) → position n t ≤ length t
@@ -35,34 +36,34 @@ module _ (k : ℕ) (n : List ℕ) (t : List TableEntry) (b : List ℕ) (h : IsTa
   low : i ≤ length t
   low = omega (arith, found, position-in n t)
 
-  not-there : find n t ≡ none → (b′ : Bool) → ltb (length t) k ≡ b′ → placeOf k n t ≡ cond b′ (Free (312 * length t)) Full
-  unfolding placeOf
-  not-there f b′ e = ap (λ (o : Option TableEntry). placedBy o k (position n t) (length t)) f ∙ ap (λ (x : Bool). cond x (Free (312 * length t)) Full) e
+  not-there : find n t ≡ none → (b′ : Bool) → ltb (length t) k ≡ b′ → slotFor k n t ≡ cond b′ (Free (slotSize * length t)) Full
+  unfolding slotFor
+  not-there f b′ e = ap (λ (o : Option TableEntry). slotBy o k (position n t) (length t)) f ∙ ap (λ (x : Bool). cond x (Free (slotSize * length t)) Full) e
 
-  pub place-full : i ≡ k → Full ≡ placeOf k n t
-  place-full all = go (standing n t)
+  pub slot-full : i ≡ k → Full ≡ slotFor k n t
+  slot-full all = go (standing n t)
     where
-      go : Standing n t → Full ≡ placeOf k n t
+      go : Standing n t → Full ≡ slotFor k n t
       go (Standing.nowhere last f) = sym (not-there f false (le-ltb (length t) k (omega (arith, found, last))))
       go (Standing.at p e r cut here f change gone) = absurd (omega (arith, found, here, h .room, ap length cut, length-append p (e ∷ r)))
 
   module _ (more : i ≡ k → ⊥) where
-    pub place-free : getD b (312 * i) 0 ≡ 0 → Free (312 * i) ≡ placeOf k n t
-    place-free z = go (standing n t)
+    pub slot-free : getD b (slotSize * i) 0 ≡ 0 → Free (slotSize * i) ≡ slotFor k n t
+    slot-free z = go (standing n t)
       where
-        go : Standing n t → Free (312 * i) ≡ placeOf k n t
+        go : Standing n t → Free (slotSize * i) ≡ slotFor k n t
         go (Standing.nowhere last f) =
-            ap (λ (j : ℕ). Free (312 * j)) (found ∙ last) ∙ sym (not-there f true (lt-ltb (length t) k (omega (arith, h .room, more, found, last))))
+            ap (λ (j : ℕ). Free (slotSize * j)) (found ∙ last) ∙ sym (not-there f true (lt-ltb (length t) k (omega (arith, h .room, more, found, last))))
         go (Standing.at p e r cut here f change gone) =
             absurd (nil≢cons (sym (none-at k t b h i low z) ∙ there p e r cut here))
 
-    pub place-held : (getD b (312 * i) 0 ≡ 0 → ⊥) → Held (312 * i) ≡ placeOf k n t
-    unfolding placeOf
-    place-held nz = go (standing n t)
+    pub slot-held : (getD b (slotSize * i) 0 ≡ 0 → ⊥) → Held (slotSize * i) ≡ slotFor k n t
+    unfolding slotFor
+    slot-held nz = go (standing n t)
       where
-        go : Standing n t → Held (312 * i) ≡ placeOf k n t
+        go : Standing n t → Held (slotSize * i) ≡ slotFor k n t
         go (Standing.nowhere last f) =
             let u = some-at k t b h i low (omega (arith, low, h .room, more)) nz in
             absurd (nil≢cons (sym (behind last) ∙ u .order))
         go (Standing.at p e r cut here f change gone) =
-            ap (λ (j : ℕ). Held (312 * j)) found ∙ sym (ap (λ (o : Option TableEntry). placedBy o k (position n t) (length t)) f)
+            ap (λ (j : ℕ). Held (slotSize * j)) found ∙ sym (ap (λ (o : Option TableEntry). slotBy o k (position n t) (length t)) f)

@@ -5,9 +5,10 @@ ghost use mathlib.Core.Path.{_≡_};
 ghost use Rattle.name.specs.Name.{canonical};
 ghost use Rattle.slots.specs.Form.{Sound};
 ghost use Rattle.slots.specs.Promise.{OfTable};
-ghost use Rattle.table.specs.Promise.{placeOf};
+ghost use Rattle.slots.specs.Sizes.{mostNames};
+ghost use Rattle.table.specs.Promise.{slotFor};
 
-pub enum Place {
+pub enum SlotFor {
     // in the slot at this offset
     Held(usize),
     // nowhere, and the slot at this offset is the first unused one
@@ -16,17 +17,17 @@ pub enum Place {
     Full,
 }
 
-pub fn place_of(table: &[u8], name: &[u8]) -> Place
-    requires { ⌜ Sound 64 (now table) ⌝ }
-    ensures { λ r. ⌜ OfTable 64 (now (table .entry)) (λ t. r ≡ placeOf 64 (canonical (now (name .entry))) t) ⌝ }
+pub(crate) fn slot_for(table: &[u8], name: &[u8]) -> SlotFor
+    requires { ⌜ Sound mostNames (now table) ⌝ }
+    ensures { λ r. ⌜ OfTable mostNames (now (table .entry)) (λ t. r ≡ slotFor mostNames (canonical (now (name .entry))) t) ⌝ }
 {
     let i = find(table, name);
     if i == SLOTS {
-        return Place::Full;
+        return SlotFor::Full;
     }
     let at = slot::SIZE * i;
     if table[at] == 0 {
-        return Place::Free(at);
+        return SlotFor::Free(at);
     }
-    Place::Held(at)
+    SlotFor::Held(at)
 }
