@@ -8,7 +8,7 @@ use lib.ListN.{length, getD}
 use Rattle.base.specs.Logic.{Every}
 use Rattle.slots.specs.Entry.{Distinct}
 use Rattle.records.proofs.OwnerLaws.{by-name, among, among-none, among-same, among-other}
-use Rattle.table_fault.specs.Sweeping.{NotBefore}
+use Rattle.table_fault.specs.Judging.{NotBefore}
 
 -- a name that stands at an index is among the names
 pub at-among : (n : List ℕ) (ns : List (List ℕ)) (i : ℕ) → i < length ns → getD ns i [] ≡ n → among n ns ≡ true

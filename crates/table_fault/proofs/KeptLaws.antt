@@ -14,7 +14,8 @@ use Rattle.base.specs.Logic.{Decides}
 use Rattle.name.specs.Name.{Proper}
 use Rattle.name.proofs.WireLaws.{proper-short}
 use Rattle.writer.proofs.WellFormedLaws.{owner-proper}
-use Rattle.table_fault.specs.Sweeping.{hashed, tagged, mark, typeBit, BeginsWith, KeptName, Kept, KeptSome, NotBefore, IndexOf}
+use Rattle.table_fault.specs.Judging.{NotBefore, IndexOf}
+use Rattle.table_fault.specs.Sweeping.{hashed, tagged, mark, typeBit, BeginsWith, MarkedAt, AllMarked, SomeMarked}
 use Rattle.table_fault.proofs.WordLaws.{begins-within}
 
 -- one byte more
@@ -60,7 +61,7 @@ module _ (ns : List (List ℕ)) (n : List ℕ) where
 -- the name n is not one of the first i that are kept
 pub record Passed (t starts marks : List ℕ) (used : ℕ) (n : List ℕ) (i : ℕ) : Type 0 where
   pub low : i ≤ used
-  pub other : (ns : List (List ℕ)) → used ≡ length ns → Kept t starts marks ns → NotBefore i ns n
+  pub other : (ns : List (List ℕ)) → used ≡ length ns → AllMarked t starts marks ns → NotBefore i ns n
 
 module _ (t starts marks : List ℕ) (used : ℕ) (n : List ℕ) where
   pub passed-none : Passed t starts marks used n 0
@@ -69,7 +70,7 @@ module _ (t starts marks : List ℕ) (used : ℕ) (n : List ℕ) where
   module _ (i : ℕ) (p : Passed t starts marks used n i) where
     -- another mark, or the same and another owner
     pub passed-mark : i < used → (getD marks i 0 ≡ mark n → ⊥) → Passed t starts marks used n (i + 1)
-    unfolding Kept
+    unfolding AllMarked
     passed-mark more differs =
         record {
           low = omega arith;
@@ -79,11 +80,11 @@ module _ (t starts marks : List ℕ) (used : ℕ) (n : List ℕ) where
 
     -- the same mark, and so the same length: the text is compared
     module _ (proper : Proper n) (same : getD marks i 0 ≡ mark n) (more : i < used) where
-      kept-length : (m : List ℕ) → KeptName t (getD starts i 0) (getD marks i 0) m → length m ≡ length n
+      kept-length : (m : List ℕ) → MarkedAt t (getD starts i 0) (getD marks i 0) m → length m ≡ length n
       kept-length m k = mark-length m n (sym (k .marked) ∙ same) (proper-short m (owner-proper (k .there .word) m (k .there .owner))) (proper-short n proper)
 
-      pub kept-within : KeptSome t starts marks used → getD starts i 0 + length n ≤ length t + 1
-      unfolding KeptSome Kept
+      pub kept-within : SomeMarked t starts marks used → getD starts i 0 + length n ≤ length t + 1
+      unfolding SomeMarked AllMarked
       kept-within (ns, long, kept) =
           let k = kept i (omega arith) in
           omega (arith, kept-length (getD ns i []) k, begins-within t (getD starts i 0) (getD ns i []) (k .there))
@@ -91,7 +92,7 @@ module _ (t starts marks : List ℕ) (used : ℕ) (n : List ℕ) where
     module _ (proper : Proper n) (same : getD marks i 0 ≡ mark n) (b : Bool)
         (decides : (m : List ℕ) → BeginsWith (drop (getD starts i 0) t) m → length m ≡ length n → Decides b (m ≡ n)) (more : i < used) where
       pub passed-owner : b ≡ false → Passed t starts marks used n (i + 1)
-      unfolding Kept
+      unfolding AllMarked
       passed-owner f =
           record {
             low = omega arith;
@@ -100,10 +101,10 @@ module _ (t starts marks : List ℕ) (used : ℕ) (n : List ℕ) where
                 not-here ns n i (p .other ns long kept) (decides (getD ns i []) (k .there) (kept-length proper same more (getD ns i []) k) .if-false f);
           }
 
-      pub is-there : b ≡ true → (ns : List (List ℕ)) → used ≡ length ns → Kept t starts marks ns → IndexOf ns n i
-      unfolding Kept
+      pub is-there : b ≡ true → (ns : List (List ℕ)) → used ≡ length ns → AllMarked t starts marks ns → IndexOf ns n i
+      unfolding AllMarked
       is-there y ns long kept =
           let k = kept i (omega arith) in found-there ns n i (omega arith) (decides (getD ns i []) (k .there) (kept-length proper same more (getD ns i []) k) .if-true y)
 
-    pub is-nowhere : used ≤ i → (ns : List (List ℕ)) → used ≡ length ns → Kept t starts marks ns → IndexOf ns n i
+    pub is-nowhere : used ≤ i → (ns : List (List ℕ)) → used ≡ length ns → AllMarked t starts marks ns → IndexOf ns n i
     is-nowhere all ns long kept = found-nowhere ns n i used long (p .low) all (p .other ns long kept)

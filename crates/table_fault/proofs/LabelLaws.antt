@@ -8,6 +8,7 @@ use lib.Dec.{leb}
 use lib.ListN.{length, take, drop, getD, length-drop}
 use lib.Seq.{drop-drop, getD-drop, take-all}
 use borrow.Author.Tests.{leb-true}
+use Rattle.base.specs.Bytes.{ascii}
 use Rattle.base.specs.Logic.{Decides}
 use Rattle.base.proofs.Lists.{no-elements}
 use Rattle.base.proofs.Tests.{and-left, decides-as}
@@ -57,7 +58,7 @@ record Labelled (l r : List ℕ) (k : ℕ) : Type 0 where
   rest : drop (suc k) l ≡ dotted (getD r k 0) (drop (suc k) r)
 
 labelled : (k : ℕ) (l r : List ℕ) → length l ≡ length r → k < length l → l ≡ dotted k r → Labelled l r k
-unfolding dotted
+unfolding dotted ascii
 labelled k [] r long within e = absurd (omega arith)
 labelled k (a ∷ l) [] long within e = absurd (omega arith)
 labelled zero (a ∷ l) (b ∷ r) long within e = record { label = refl; dot = head-eq-of-cons-eq e; rest = tail-eq-of-cons-eq e }
@@ -66,7 +67,7 @@ labelled (suc k) (a ∷ l) (b ∷ r) long within e =
     record { label = ap₂ _∷_ (head-eq-of-cons-eq e) (h .label); dot = h .dot; rest = h .rest }
 
 unlabelled : (k : ℕ) (l r : List ℕ) → length l ≡ length r → k < length l → Labelled l r k → l ≡ dotted k r
-unfolding dotted
+unfolding dotted ascii
 unlabelled k [] r long within h = absurd (omega arith)
 unlabelled k (a ∷ l) [] long within h = absurd (omega arith)
 unlabelled zero (a ∷ l) (b ∷ r) long within h = ap₂ _∷_ (h .dot) (h .rest)
@@ -75,7 +76,7 @@ unlabelled (suc k) (a ∷ l) (b ∷ r) long within h =
 
 -- a length past the end: no dot is left
 no-dot : (k : ℕ) (r : List ℕ) → length r ≤ k → dotted k r ≡ r
-unfolding dotted
+unfolding dotted ascii
 no-dot k [] past = refl
 no-dot zero (b ∷ r) past = absurd (omega arith)
 no-dot (suc k) (b ∷ r) past = ap (_∷_ b) (no-dot k r (omega arith))

@@ -10,3 +10,5 @@ pub mod PlacedLaws
 pub mod SweepLaws
 pub mod TurnLaws
 pub mod FaultLaws
+pub mod OneLaws
+pub mod Theorems

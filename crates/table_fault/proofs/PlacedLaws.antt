@@ -7,7 +7,7 @@ use lib.ListN.{length, getD, set, length-append}
 use lib.Seq.{getD-set-same, getD-set-other}
 use Rattle.grammar.specs.Listing.{ResourceRecord}
 use Rattle.records.specs.Gathered.{owners}
-use Rattle.table_fault.specs.Sweeping.{IndexOf, Placed}
+use Rattle.table_fault.specs.Judging.{IndexOf, Placed}
 
 nothing-split : {P : Type 0} (a : List ResourceRecord) (q : ResourceRecord) (b : List ResourceRecord) → [] ≡ a ++ q ∷ b → P
 nothing-split [] q b e = absurd (omega (arith, ap length e))

@@ -12,9 +12,11 @@ use Rattle.listing.specs.Giving.{Last, end, Gives}
 use Rattle.records.specs.Gathered.{dataOf, Single, owners}
 use Rattle.records.proofs.DataLaws.{length-data-append, of-is, data-same}
 use Rattle.records.proofs.OwnerLaws.{among, by-among, owners-none, owners-more-by-new, no-data}
-use Rattle.table_fault.specs.Sweeping.{Kept, IndexOf, Placed, Met, Sweeps, endedAt}
-use Rattle.table_fault.specs.declared.Outcome.the-variants as outcome
-use Rattle.table_fault.specs.declared.Seen.{Seen}
+use Rattle.slots.specs.Sizes.{mostNames, mostRecords}
+use Rattle.table_fault.specs.Judging.{IndexOf, Placed}
+use Rattle.table_fault.specs.Sweeping.{AllMarked, Met, SameFrom, Sweeps, endedAt}
+use Rattle.table_fault.specs.declared.SweepOutcome.the-variants as outcome
+use Rattle.table_fault.specs.declared.Swept.{Swept}
 use Rattle.table_fault.proofs.IndexLaws.{among-at, nowhere-among}
 use Rattle.table_fault.proofs.TypeLaws.{many, Flagged, flagged-each, flagged-twice}
 use Rattle.table_fault.proofs.CountLaws.{records-few}
@@ -35,15 +37,15 @@ index-new ns n i h le = ⊎-elim (λ w. absurd (omega (arith, w .0))) (λ w. (w 
 
 -- ---- what is known after each record
 
-module _ (t : List ℕ) (from : ℕ) (l : Last) where
+module _ (t : List ℕ) (from : ℕ) (l : Last) (ps₀ : List ℕ) where
   -- every name was kept; or the first record that could not be is that at `rest`, with others after it
   pub data Left (before after ahead : List ResourceRecord) (used rest : ℕ) : Type 0 where
     all-kept : rest ≡ length t → after ≡ [] → Left before after ahead used rest
-    some-left : (r : ResourceRecord) (qs : List ResourceRecord) → after ≡ r ∷ qs → among (r .owner) (owners before) ≡ false → 64 ≤ used
+    some-left : (r : ResourceRecord) (qs : List ResourceRecord) → after ≡ r ∷ qs → among (r .owner) (owners before) ≡ false → mostNames ≤ used
         → Gives t rest (after ++ ahead) l → from < rest → rest < length t → Left before after ahead used rest
 
   -- of the records rs, after which l comes, those seen are behind, and those ahead are given from `at` on. The names of the records `before` are kept
-  pub record Swept (rs : List ResourceRecord) (starts marks types : List ℕ) (used rest at : ℕ) (ps : List ℕ) (count : ℕ) : Type 0 where
+  pub record SweptTo (rs : List ResourceRecord) (starts marks types : List ℕ) (used rest at : ℕ) (ps : List ℕ) (count : ℕ) : Type 0 where
     pub seen : List ResourceRecord
     pub ahead : List ResourceRecord
     pub before : List ResourceRecord
@@ -51,28 +53,29 @@ module _ (t : List ℕ) (from : ℕ) (l : Last) where
     pub order : rs ≡ seen ++ ahead
     pub parts : seen ≡ before ++ after
     pub gives : Gives t at ahead l
-    pub kept : Kept t starts marks (owners before)
+    pub kept : AllMarked t starts marks (owners before)
     pub long : used ≡ length (owners before)
-    pub room : used ≤ 64
+    pub room : used ≤ mostNames
     pub flags : (j : ℕ) → j < used → Flagged (getD (owners before) j []) seen (getD types j 0)
     pub on : from ≤ at
     pub moved : 1 ≤ used → from < at
     pub left : Left before after ahead used rest
-    pub starts-size : length starts ≡ 64
-    pub marks-size : length marks ≡ 64
-    pub types-size : length types ≡ 64
+    pub starts-size : length starts ≡ mostNames
+    pub marks-size : length marks ≡ mostNames
+    pub types-size : length types ≡ mostNames
     pub counted : count ≡ length seen
     pub few : count ≤ at
-    pub placed : rest ≡ length t → length seen ≤ 192 → Placed seen ps
-    pub places-size : length ps ≡ 192
+    pub placed : rest ≡ length t → length seen ≤ mostRecords → Placed seen ps
+    pub behind : SameFrom count ps₀ ps
+    pub slots-size : length ps ≡ mostRecords
 
   no-names : (k : ℕ) → k < length (owners []) → ⊥
   no-names k lt = omega (arith, ap length owners-none)
 
-  pub swept-none : (rs : List ResourceRecord) (starts marks types ps : List ℕ) → Gives t from rs l → length starts ≡ 64 → length marks ≡ 64 → length types ≡ 64 → length ps ≡ 192
-      → Swept rs starts marks types 0 (length t) from ps 0
-  unfolding Kept
-  swept-none rs starts marks types ps g s m ty size =
+  pub swept-none : (rs : List ResourceRecord) (starts marks types : List ℕ) → Gives t from rs l → length starts ≡ mostNames → length marks ≡ mostNames → length types ≡ mostNames → length ps₀ ≡ mostRecords
+      → SweptTo rs starts marks types 0 (length t) from ps₀ 0
+  unfolding AllMarked SameFrom
+  swept-none rs starts marks types g s m ty size =
       record {
         seen = [];
         ahead = rs;
@@ -93,13 +96,14 @@ module _ (t : List ℕ) (from : ℕ) (l : Last) where
         types-size = ty;
         counted = refl;
         few = omega arith;
-        placed = λ whole fits. placed-none ps;
-        places-size = size;
+        placed = λ whole fits. placed-none ps₀;
+        behind = λ j le. refl;
+        slots-size = size;
       }
 
-  module _ {rs : List ResourceRecord} {starts marks types : List ℕ} {used rest at : ℕ} {ps : List ℕ} {count : ℕ} (w : Swept rs starts marks types used rest at ps count) where
+  module _ {rs : List ResourceRecord} {starts marks types : List ℕ} {used rest at : ℕ} {ps : List ℕ} {count : ℕ} (w : SweptTo rs starts marks types used rest at ps count) where
     -- two records alike: the one that stands next, and one that was seen
-    twice : (s : Seen) → Met t at (owners (w .before)) (w .ahead) l s → s .index < used → getD types (s .index) 0 / s .bit % 2 ≡ 1 → Single rs → ⊥
+    twice : (s : Swept) → Met t at (owners (w .before)) (w .ahead) l s → s .index < used → getD types (s .index) 0 / s .bit % 2 ≡ 1 → Single rs → ⊥
     unfolding Single
     twice s m lt set single =
         let r = m .head in
@@ -112,8 +116,8 @@ module _ (t : List ℕ) (from : ℕ) (l : Last) where
         let here = ap length (data-same (r .owner) (r .rtype) r (m .later) (of-is (r .owner) (r .rtype) r refl refl)) in
         omega (arith, single (r .owner) (r .rtype), one, all, two, here)
 
-    pub repeated : (s : Seen) → Met t at (owners (w .before)) (w .ahead) l s → s .index < used → getD types (s .index) 0 / s .bit % 2 ≡ 1
-        → Sweeps t from 64 rs l ps (outcome.Repeat (s .next))
+    pub repeated : (s : Swept) → Met t at (owners (w .before)) (w .ahead) l s → s .index < used → getD types (s .index) 0 / s .bit % 2 ≡ 1
+        → Sweeps t from mostNames rs l ps₀ ps (outcome.Repeat (s .next))
     repeated s m lt set = (twice s m lt set, (m .later, m .gives))
 
     -- nothing is ahead: every name was kept, and no two records are alike; or some are left, and it depends on them
@@ -144,20 +148,20 @@ module _ (t : List ℕ) (from : ℕ) (l : Last) where
       unfolding Single dataOf
       none-single n k = omega arith
 
-      whole-sweeps : rest ≡ length t → w .after ≡ [] → Sweeps t from 64 rs l ps outcome.Whole
+      whole-sweeps : rest ≡ length t → w .after ≡ [] → Sweeps t from mostNames rs l ps₀ ps outcome.Whole
       whole-sweeps e none =
           let all : rs ≡ w .before = all-seen ∙ w .parts ∙ ap (λ (x : List ResourceRecord). w .before ++ x) none ∙ append-nil (w .before) in
           let single = single-by (subst Single (sym none) none-single) in
-          let room : length (owners rs) ≤ 64 = omega (arith, w .long, w .room, ap (λ (x : List ResourceRecord). length (owners x)) all) in
-          let fits : length (w .seen) ≤ 192 = omega (arith, records-few rs single, ap length all-seen) in
-          (last, single, room, subst (λ (x : List ResourceRecord). Placed x ps) (sym all-seen) (w .placed e fits))
+          let room : length (owners rs) ≤ mostNames = omega (arith, w .long, w .room, ap (λ (x : List ResourceRecord). length (owners x)) all) in
+          let fits : length (w .seen) ≤ mostRecords = omega (arith, records-few rs single, ap length all-seen) in
+          (last, single, room, subst (λ (x : List ResourceRecord). Placed x ps) (sym all-seen) (w .placed e fits), subst (λ (k : ℕ). SameFrom k ps₀ ps) (w .counted ∙ ap length (sym all-seen)) (w .behind))
 
-      ended-by : Left (w .before) (w .after) (w .ahead) used rest → Sweeps t from 64 rs l ps (endedAt (length t) rest)
+      ended-by : Left (w .before) (w .after) (w .ahead) used rest → Sweeps t from mostNames rs l ps₀ ps (endedAt (length t) rest)
       unfolding Single
-      ended-by (Left.all-kept e none) = subst (Sweeps t from 64 rs l ps) (sym (ap (λ (b : Bool). cond b outcome.Whole (outcome.Beyond rest)) (eq-eqb rest (length t) e))) (whole-sweeps e none)
+      ended-by (Left.all-kept e none) = subst (Sweeps t from mostNames rs l ps₀ ps) (sym (ap (λ (b : Bool). cond b outcome.Whole (outcome.Beyond rest)) (eq-eqb rest (length t) e))) (whole-sweeps e none)
       ended-by (Left.some-left r qs e new full g on within) =
           let not-end : rest ≡ length t → ⊥ = λ x. omega arith in
-          subst (Sweeps t from 64 rs l ps) (sym (ap (λ (b : Bool). cond b outcome.Whole (outcome.Beyond rest)) (ne-eqb rest (length t) not-end))) (
+          subst (Sweeps t from mostNames rs l ps₀ ps) (sym (ap (λ (b : Bool). cond b outcome.Whole (outcome.Beyond rest)) (ne-eqb rest (length t) not-end))) (
             last,
             record {
               left = w .after;
@@ -171,5 +175,5 @@ module _ (t : List ℕ) (from : ℕ) (l : Last) where
             },
           )
 
-      pub ended-sweeps : Sweeps t from 64 rs l ps (endedAt (length t) rest)
+      pub ended-sweeps : Sweeps t from mostNames rs l ps₀ ps (endedAt (length t) rest)
       ended-sweeps = ended-by (w .left)

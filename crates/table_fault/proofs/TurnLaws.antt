@@ -11,19 +11,21 @@ use lib.ListN.{length, drop, getD, set, length-set, length-append, List·getD-ap
 use lib.Seq.{getD-set-same, getD-set-other, getD-at, append-snoc}
 use borrow.Author.Tests.{eqb-true, eqb-false}
 use Rattle.grammar.specs.Listing.{RecordType, ResourceRecord}
-use Rattle.entry.specs.Held.{number}
+use Rattle.entry.specs.Held.{typeNumber}
 use Rattle.listing.specs.Giving.{Last, Gives}
 use Rattle.records.specs.Gathered.{dataOf, owners}
 use Rattle.records.proofs.OwnerLaws.{among, owners-known, owners-new, owners-distinct, no-data}
-use Rattle.table_fault.specs.Sweeping.{mark, typeBit, BeginsWith, KeptName, Kept, IndexOf, Placed, Met}
-use Rattle.table_fault.specs.declared.Seen.{Seen}
+use Rattle.slots.specs.Sizes.{mostNames, mostRecords}
+use Rattle.table_fault.specs.Judging.{IndexOf, Placed}
+use Rattle.table_fault.specs.Sweeping.{mark, typeBit, BeginsWith, MarkedAt, AllMarked, Met, SameFrom}
+use Rattle.table_fault.specs.declared.Swept.{Swept}
 use Rattle.table_fault.proofs.IndexLaws.{at-among, distinct-at}
 use Rattle.table_fault.proofs.TypeLaws.{Flagged, flagged-none, flagged-more, flagged-other}
 use Rattle.table_fault.proofs.PlacedLaws.{placed-more}
-use Rattle.table_fault.proofs.SweepLaws.{index-known, index-new, Left, all-kept, some-left, Swept}
+use Rattle.table_fault.proofs.SweepLaws.{index-known, index-new, Left, all-kept, some-left, SweptTo}
 
 -- no flag is set in 0
-unset : (k : RecordType) → 0 / typeBit (number k) % 2 ≡ 1 → ⊥
+unset : (k : RecordType) → 0 / typeBit (typeNumber k) % 2 ≡ 1 → ⊥
 unset RecordType.A e = omega arith
 unset RecordType.AAAA e = omega arith
 unset RecordType.DHCID e = omega arith
@@ -33,9 +35,9 @@ moved-on : (a b : List ResourceRecord) (r : ResourceRecord) (l ahead : List Reso
 moved-on a b r l ahead e o = e ∙ ap (λ (x : List ResourceRecord). b ++ x) o ∙ sym (append-snoc b r l)
 
 -- an entry that is no record
-pub swept-still : (t : List ℕ) (from : ℕ) (l : Last) {rs : List ResourceRecord} {starts marks types : List ℕ} {used rest at : ℕ} {ps : List ℕ} {count : ℕ} (w : Swept t from l rs starts marks types used rest at ps count)
-    (next : ℕ) → at < next → Gives t next (w .ahead) l → Swept t from l rs starts marks types used rest next ps count
-swept-still t from l w next further g =
+pub swept-still : (t : List ℕ) (from : ℕ) (l : Last) (ps₀ : List ℕ) {rs : List ResourceRecord} {starts marks types : List ℕ} {used rest at : ℕ} {ps : List ℕ} {count : ℕ} (w : SweptTo t from l ps₀ rs starts marks types used rest at ps count)
+    (next : ℕ) → at < next → Gives t next (w .ahead) l → SweptTo t from l ps₀ rs starts marks types used rest next ps count
+swept-still t from l ps₀ w next further g =
     record {
       seen = w .seen;
       ahead = w .ahead;
@@ -57,11 +59,12 @@ swept-still t from l w next further g =
       counted = w .counted;
       few = omega (arith, w .few);
       placed = w .placed;
-      places-size = w .places-size;
+      behind = w .behind;
+      slots-size = w .slots-size;
     }
 
-module _ (t : List ℕ) (from : ℕ) (l : Last) {rs : List ResourceRecord} {starts marks types : List ℕ} {used rest at : ℕ} {ps : List ℕ} {count : ℕ} (w : Swept t from l rs starts marks types used rest at ps count)
-    (s : Seen) (further : at < s .next) (m : Met t at (owners (w .before)) (w .ahead) l s) (ps′ : List ℕ) (n : ℕ) (noted : ps′ ≡ set ps count (s .index)) (one-more : n ≡ count + 1) where
+module _ (t : List ℕ) (from : ℕ) (l : Last) (ps₀ : List ℕ) {rs : List ResourceRecord} {starts marks types : List ℕ} {used rest at : ℕ} {ps : List ℕ} {count : ℕ} (w : SweptTo t from l ps₀ rs starts marks types used rest at ps count)
+    (s : Swept) (further : at < s .next) (m : Met t at (owners (w .before)) (w .ahead) l s) (ps′ : List ℕ) (n : ℕ) (noted : ps′ ≡ set ps count (s .index)) (one-more : n ≡ count + 1) where
   abbrev r : ResourceRecord
   r = m .head
 
@@ -90,14 +93,20 @@ module _ (t : List ℕ) (from : ℕ) (l : Last) {rs : List ResourceRecord} {star
   count-more : n ≡ length seen′
   count-more = omega (arith, w .counted, length-append (w .seen) (r ∷ []))
 
-  size-still : length ps′ ≡ 192
-  size-still = ap length noted ∙ length-set ps count (s .index) ∙ w .places-size
+  behind-still : SameFrom n ps₀ ps′
+  unfolding SameFrom
+  behind-still j le =
+      let other : j ≡ count → ⊥ = λ e. omega arith in
+      ap (λ (x : List ℕ). getD x j 0) noted ∙ getD-set-other ps count j (s .index) 0 other ∙ w .behind j (omega arith)
 
-  placed-on : rest ≡ length t → w .after ≡ [] → length seen′ ≤ 192 → Placed seen′ ps′
+  size-still : length ps′ ≡ mostRecords
+  size-still = ap length noted ∙ length-set ps count (s .index) ∙ w .slots-size
+
+  placed-on : rest ≡ length t → w .after ≡ [] → length seen′ ≤ mostRecords → Placed seen′ ps′
   placed-on whole none fits =
       let before : w .before ≡ w .seen = sym (w .parts ∙ ap (λ (x : List ResourceRecord). w .before ++ x) none ∙ append-nil (w .before)) in
       subst (Placed seen′) (sym noted)
-      (placed-more (w .seen) r ps (s .index) count (w .counted) (omega (arith, count-more, w .counted, w .places-size)) (w .placed whole (omega (arith, count-more, w .counted)))
+      (placed-more (w .seen) r ps (s .index) count (w .counted) (omega (arith, count-more, w .counted, w .slots-size)) (w .placed whole (omega (arith, count-more, w .counted)))
       (subst (λ (x : List ResourceRecord). IndexOf (owners x) (r .owner) (s .index)) before (m .there)))
 
   gives-here : Gives t at (r ∷ m .later) l
@@ -121,7 +130,7 @@ module _ (t : List ℕ) (from : ℕ) (l : Last) {rs : List ResourceRecord} {star
     flags-own : Flagged (getD ns i []) seen′ (getD types′ i 0)
     flags-own =
         let f = flagged-more (getD ns i []) (w .seen) r (sym own) (w .flags i lt) (λ e. free (ap (λ (b : ℕ). getD types i 0 / b % 2) (m .bit) ∙ e)) in
-        let v : getD types i 0 + typeBit (number (r .rtype)) ≡ getD types′ i 0 =
+        let v : getD types i 0 + typeBit (typeNumber (r .rtype)) ≡ getD types′ i 0 =
         sym (getD-set-same types i (getD types i 0 + s .bit) 0 (omega (arith, w .room, w .types-size)) ∙ ap (λ (b : ℕ). getD types i 0 + b) (m .bit)) in
         subst (Flagged (getD ns i []) seen′) v f
 
@@ -137,7 +146,7 @@ module _ (t : List ℕ) (from : ℕ) (l : Last) {rs : List ResourceRecord} {star
         go true e = subst (λ (k : ℕ). Flagged (getD ns k []) seen′ (getD types′ k 0)) (sym (eqb-true j i e)) flags-own
         go false e = flags-else j lj (eqb-false j i e)
 
-    known-by : Left t from l (w .before) (w .after) (w .ahead) used rest → Swept t from l rs starts marks types′ used rest (s .next) ps′ n
+    known-by : Left t from l ps₀ (w .before) (w .after) (w .ahead) used rest → SweptTo t from l ps₀ rs starts marks types′ used rest (s .next) ps′ n
     known-by (all-kept e none) =
         let same = owners-known (w .before) r known in
         record {
@@ -148,7 +157,7 @@ module _ (t : List ℕ) (from : ℕ) (l : Last) {rs : List ResourceRecord} {star
           order = order′;
           parts = parts-kept none;
           gives = m .gives;
-          kept = subst (Kept t starts marks) (sym same) (w .kept);
+          kept = subst (AllMarked t starts marks) (sym same) (w .kept);
           long = w .long ∙ ap length (sym same);
           room = w .room;
           flags = λ j lj. subst (λ (l : List (List ℕ)). Flagged (getD l j []) seen′ (getD types′ j 0)) (sym same) (flags-known j lj);
@@ -161,7 +170,8 @@ module _ (t : List ℕ) (from : ℕ) (l : Last) {rs : List ResourceRecord} {star
           counted = count-more;
           few = omega (arith, w .few, further);
           placed = λ whole fits. placed-on whole none fits;
-          places-size = size-still;
+          behind = behind-still;
+          slots-size = size-still;
         }
     known-by (some-left q qs e new full g on within) =
         record {
@@ -185,10 +195,11 @@ module _ (t : List ℕ) (from : ℕ) (l : Last) {rs : List ResourceRecord} {star
           counted = count-more;
           few = omega (arith, w .few, further);
           placed = λ whole fits. absurd (omega arith);
-          places-size = size-still;
+          behind = behind-still;
+          slots-size = size-still;
         }
 
-    pub swept-known : Swept t from l rs starts marks types′ used rest (s .next) ps′ n
+    pub swept-known : SweptTo t from l ps₀ rs starts marks types′ used rest (s .next) ps′ n
     swept-known = known-by (w .left)
 
   -- ---- the name is new
@@ -204,14 +215,14 @@ module _ (t : List ℕ) (from : ℕ) (l : Last) {rs : List ResourceRecord} {star
     flags-new j lj = flagged-other (getD ns j []) (w .seen) r (other-name j lj) (w .flags j lj)
 
     -- and there is no room for it: it is the first of those, or one of them
-    module _ (full : 64 ≤ s .index) (within : at < length t) where
-      is-full : 64 ≤ used
+    module _ (full : mostNames ≤ s .index) (within : at < length t) where
+      is-full : mostNames ≤ used
       is-full = omega (arith, w .long, new-there .0)
 
-      pub swept-beyond : rest ≡ length t → Swept t from l rs starts marks types used at (s .next) ps′ n
+      pub swept-beyond : rest ≡ length t → SweptTo t from l ps₀ rs starts marks types used at (s .next) ps′ n
       swept-beyond e = go (w .left)
         where
-          go : Left t from l (w .before) (w .after) (w .ahead) used rest → Swept t from l rs starts marks types used at (s .next) ps′ n
+          go : Left t from l ps₀ (w .before) (w .after) (w .ahead) used rest → SweptTo t from l ps₀ rs starts marks types used at (s .next) ps′ n
           go (some-left q qs a new f g on inside) = absurd (omega arith)
           go (all-kept a none) =
               record {
@@ -235,13 +246,14 @@ module _ (t : List ℕ) (from : ℕ) (l : Last) {rs : List ResourceRecord} {star
                 counted = count-more;
                 few = omega (arith, w .few, further);
                 placed = λ whole fits. absurd (omega arith);
-                places-size = size-still;
+                behind = behind-still;
+                slots-size = size-still;
               }
 
-      pub swept-past : (rest ≡ length t → ⊥) → Swept t from l rs starts marks types used rest (s .next) ps′ n
+      pub swept-past : (rest ≡ length t → ⊥) → SweptTo t from l ps₀ rs starts marks types used rest (s .next) ps′ n
       swept-past d = go (w .left)
         where
-          go : Left t from l (w .before) (w .after) (w .ahead) used rest → Swept t from l rs starts marks types used rest (s .next) ps′ n
+          go : Left t from l ps₀ (w .before) (w .after) (w .ahead) used rest → SweptTo t from l ps₀ rs starts marks types used rest (s .next) ps′ n
           go (all-kept a none) = absurd (d a)
           go (some-left q qs a new f g on inside) =
               record {
@@ -265,11 +277,12 @@ module _ (t : List ℕ) (from : ℕ) (l : Last) {rs : List ResourceRecord} {star
                 counted = count-more;
                 few = omega (arith, w .few, further);
                 placed = λ whole fits. absurd (d whole);
-                places-size = size-still;
+                behind = behind-still;
+                slots-size = size-still;
               }
 
     -- or there is, and it is kept
-    module _ (free : s .index < 64) where
+    module _ (free : s .index < mostNames) where
       abbrev starts″ : List ℕ
       starts″ = set starts (s .index) at
 
@@ -282,7 +295,7 @@ module _ (t : List ℕ) (from : ℕ) (l : Last) {rs : List ResourceRecord} {star
       index-is : s .index ≡ used
       index-is = omega (arith, w .long, new-there .0)
 
-      none-left : Left t from l (w .before) (w .after) (w .ahead) used rest → (rest ≡ length t) × (w .after ≡ [])
+      none-left : Left t from l ps₀ (w .before) (w .after) (w .ahead) used rest → (rest ≡ length t) × (w .after ≡ [])
       none-left (all-kept a none) = (a, none)
       none-left (some-left q qs a new f g on inside) = absurd (omega (arith, index-is))
 
@@ -299,15 +312,15 @@ module _ (t : List ℕ) (from : ℕ) (l : Last) {rs : List ResourceRecord} {star
       apart : (j : ℕ) → j < used → j ≡ s .index → ⊥
       apart j lj e = omega (arith, index-is)
 
-      kept-old : (j : ℕ) → j < used → KeptName t (getD starts″ j 0) (getD marks″ j 0) (getD (ns ++ r .owner ∷ []) j [])
-      unfolding Kept
+      kept-old : (j : ℕ) → j < used → MarkedAt t (getD starts″ j 0) (getD marks″ j 0) (getD (ns ++ r .owner ∷ []) j [])
+      unfolding AllMarked
       kept-old j lj =
           let k = w .kept j (omega (arith, w .long)) in
           let a = getD-set-other starts (s .index) j at 0 (apart j lj) in
           let b = getD-set-other marks (s .index) j (s .mark) 0 (apart j lj) in
           record { there = subst₂ (λ (x : ℕ) (n : List ℕ). BeginsWith (drop x t) n) (sym a) (sym (at-old j lj)) (k .there); marked = b ∙ k .marked ∙ ap mark (sym (at-old j lj)) }
 
-      kept-new : KeptName t (getD starts″ (s .index) 0) (getD marks″ (s .index) 0) (getD (ns ++ r .owner ∷ []) (s .index) [])
+      kept-new : MarkedAt t (getD starts″ (s .index) 0) (getD marks″ (s .index) 0) (getD (ns ++ r .owner ∷ []) (s .index) [])
       kept-new =
           let a = getD-set-same starts (s .index) at 0 (omega (arith, w .starts-size)) in
           let b = getD-set-same marks (s .index) (s .mark) 0 (omega (arith, w .marks-size)) in
@@ -327,12 +340,12 @@ module _ (t : List ℕ) (from : ℕ) (l : Last) {rs : List ResourceRecord} {star
       flags-first none =
           let before : w .seen ≡ w .before = w .parts ∙ ap (λ (x : List ResourceRecord). w .before ++ x) none ∙ append-nil (w .before) in
           let f = flagged-more (r .owner) (w .seen) r refl (flagged-none (r .owner) (w .seen) (λ k. subst (λ (x : List ResourceRecord). dataOf (r .owner) k x ≡ []) (sym before) (no-data (r .owner) k (w .before) (new-there .1)))) (unset (r .rtype)) in
-          let v : 0 + typeBit (number (r .rtype)) ≡ getD types″ (s .index) 0 =
-          zero-add (typeBit (number (r .rtype))) ∙ sym (m .bit) ∙ sym (getD-set-same types (s .index) (s .bit) 0 (omega (arith, w .types-size))) in
+          let v : 0 + typeBit (typeNumber (r .rtype)) ≡ getD types″ (s .index) 0 =
+          zero-add (typeBit (typeNumber (r .rtype))) ∙ sym (m .bit) ∙ sym (getD-set-same types (s .index) (s .bit) 0 (omega (arith, w .types-size))) in
           subst (λ (n : List ℕ). Flagged n seen′ (getD types″ (s .index) 0)) (sym at-new) (subst (Flagged (r .owner) seen′) v f)
 
-      pub swept-new : Swept t from l rs starts″ marks″ types″ (s .index + 1) rest (s .next) ps′ n
-      unfolding Kept
+      pub swept-new : SweptTo t from l ps₀ rs starts″ marks″ types″ (s .index + 1) rest (s .next) ps′ n
+      unfolding AllMarked
       swept-new =
           let none = none-left (w .left) in
           let long : s .index + 1 ≡ length (owners (w .before ++ r ∷ [])) = omega (arith, index-is, w .long, ap length now-named, length-append ns (r .owner ∷ [])) in
@@ -344,7 +357,7 @@ module _ (t : List ℕ) (from : ℕ) (l : Last) {rs : List ResourceRecord} {star
             order = order′;
             parts = parts-kept (none .1);
             gives = m .gives;
-            kept = λ j lj. subst (λ (l : List (List ℕ)). KeptName t (getD starts″ j 0) (getD marks″ j 0) (getD l j [])) (sym now-named) (by-index kept-old kept-new j (omega (arith, long)));
+            kept = λ j lj. subst (λ (l : List (List ℕ)). MarkedAt t (getD starts″ j 0) (getD marks″ j 0) (getD l j [])) (sym now-named) (by-index kept-old kept-new j (omega (arith, long)));
             long = long;
             room = omega arith;
             flags = λ j lj. subst (λ (l : List (List ℕ)). Flagged (getD l j []) seen′ (getD types″ j 0)) (sym now-named) (by-index flags-old (flags-first (none .1)) j lj);
@@ -357,5 +370,6 @@ module _ (t : List ℕ) (from : ℕ) (l : Last) {rs : List ResourceRecord} {star
             counted = count-more;
             few = omega (arith, w .few, further);
             placed = λ whole fits. placed-on whole (none .1) fits;
-            places-size = size-still;
+            behind = behind-still;
+            slots-size = size-still;
           }

@@ -5,7 +5,7 @@ use mathlib.Core.List.{List, [], _∷_, _++_}
 use native.Mathlib.Omega.{arith}
 use lib.ListN.{length}
 use Rattle.grammar.specs.Listing.{RecordType, ResourceRecord}
-use Rattle.entry.specs.Held.{number}
+use Rattle.entry.specs.Held.{typeNumber}
 use Rattle.records.specs.Gathered.{dataOf}
 use Rattle.records.proofs.DataLaws.{of-is, other-owner, other-type, length-data-append, data-one, data-not-one}
 use Rattle.table_fault.specs.Sweeping.{typeBit}
@@ -36,12 +36,12 @@ flagged-none n seen none =
     let dhcid = ap length (none RecordType.DHCID) in
     record { sum = omega arith; a = omega arith; aaaa = omega arith; dhcid = omega arith }
 
-pub bit-some : (k : RecordType) → 1 ≤ typeBit (number k)
+pub bit-some : (k : RecordType) → 1 ≤ typeBit (typeNumber k)
 bit-some RecordType.A = omega arith
 bit-some RecordType.AAAA = omega arith
 bit-some RecordType.DHCID = omega arith
 
-pub bit-small : (k : RecordType) → typeBit (number k) ≤ 4
+pub bit-small : (k : RecordType) → typeBit (typeNumber k) ≤ 4
 bit-small RecordType.A = omega arith
 bit-small RecordType.AAAA = omega arith
 bit-small RecordType.DHCID = omega arith
@@ -68,17 +68,17 @@ module _ (n : List ℕ) (seen : List ResourceRecord) (r : ResourceRecord) where
       record { sum = omega (arith, f .sum); a = omega (arith, f .a); aaaa = omega (arith, f .aaaa); dhcid = omega (arith, f .dhcid) }
 
   -- a type whose flag is set stands already
-  pub flagged-twice : {v : ℕ} → Flagged n seen v → (k : RecordType) → v / typeBit (number k) % 2 ≡ 1 → 1 ≤ many n k seen
+  pub flagged-twice : {v : ℕ} → Flagged n seen v → (k : RecordType) → v / typeBit (typeNumber k) % 2 ≡ 1 → 1 ≤ many n k seen
   flagged-twice f RecordType.A set = omega (arith, f .sum, f .a, f .aaaa, f .dhcid)
   flagged-twice f RecordType.AAAA set = omega (arith, f .sum, f .a, f .aaaa, f .dhcid)
   flagged-twice f RecordType.DHCID set = omega (arith, f .sum, f .a, f .aaaa, f .dhcid)
 
   -- and one whose flag is not set is set by it
   module _ (own : r .owner ≡ n) where
-    apart : (j k : RecordType) → r .rtype ≡ j → (number j ≡ number k → ⊥) → many n k (seen ++ r ∷ []) ≡ many n k seen
-    apart j k e d = many-type k (λ same. d (ap number (sym e ∙ same)))
+    apart : (j k : RecordType) → r .rtype ≡ j → (typeNumber j ≡ typeNumber k → ⊥) → many n k (seen ++ r ∷ []) ≡ many n k seen
+    apart j k e d = many-type k (λ same. d (ap typeNumber (sym e ∙ same)))
 
-    flagged-by : {v : ℕ} → Flagged n seen v → (k : RecordType) → r .rtype ≡ k → (v / typeBit (number k) % 2 ≡ 1 → ⊥) → Flagged n (seen ++ r ∷ []) (v + typeBit (number k))
+    flagged-by : {v : ℕ} → Flagged n seen v → (k : RecordType) → r .rtype ≡ k → (v / typeBit (typeNumber k) % 2 ≡ 1 → ⊥) → Flagged n (seen ++ r ∷ []) (v + typeBit (typeNumber k))
     flagged-by f RecordType.A e unset =
         let a = many-own RecordType.A own e in
         let aaaa = apart RecordType.A RecordType.AAAA e (λ x. omega arith) in
@@ -98,5 +98,5 @@ module _ (n : List ℕ) (seen : List ResourceRecord) (r : ResourceRecord) where
         let none : many n RecordType.DHCID seen ≡ 0 = omega (arith, f .sum, f .a, f .aaaa, f .dhcid) in
         record { sum = omega (arith, f .sum); a = omega (arith, f .a); aaaa = omega (arith, f .aaaa); dhcid = omega arith }
 
-    pub flagged-more : {v : ℕ} → Flagged n seen v → (v / typeBit (number (r .rtype)) % 2 ≡ 1 → ⊥) → Flagged n (seen ++ r ∷ []) (v + typeBit (number (r .rtype)))
+    pub flagged-more : {v : ℕ} → Flagged n seen v → (v / typeBit (typeNumber (r .rtype)) % 2 ≡ 1 → ⊥) → Flagged n (seen ++ r ∷ []) (v + typeBit (typeNumber (r .rtype)))
     flagged-more f unset = flagged-by f (r .rtype) refl unset

@@ -7,6 +7,7 @@ use mathlib.Core.Option.{Option, none, some, Option·some-injective, Option·som
 use native.Mathlib.Omega.{arith}
 use lib.ListN.{length, take, drop, length-append, length-drop}
 use lib.Seq.{take-at}
+use Rattle.base.specs.Bytes.{ascii}
 use Rattle.base.specs.Logic.{Decides}
 use Rattle.base.proofs.Lists.{map-append}
 use Rattle.base.proofs.Tests.{decides-as}
@@ -18,11 +19,12 @@ use Rattle.name.proofs.NameLaws.{length-text, lowered, canonical-wire, length-c
 use Rattle.name.proofs.Theorems.{spelled, one-name}
 use Rattle.name.specs.Name
 use Rattle.grammar.specs.Listing.{Kind, blank, lineEnd, opening, closing, semicolon, wordByte, notAllowed, kindOf, isWordKind, isWordByte, begins, Depth, outside, ResourceRecord, Owner}
-use Rattle.grammar.proofs.Scan.{plain, Ending, atEnd, atLine, atFault, Laid, addLetter, scan}
+use Rattle.grammar.specs.Scan.{plain, Ending, atEnd, atLine, atFault, Laid, addLetter, scan}
 use Rattle.grammar.proofs.ScanLaws.{byte-scan}
-use Rattle.grammar.proofs.OwnerReader.{ownerOf, owner-reads}
-use Rattle.grammar.proofs.Content.{Content, one, fault, Headed, headOf, rdataOf, byRdata, byOwner, contentOf}
-use Rattle.grammar.proofs.Reader.{Verdict, right, wrong, after, shifted, byEnding, read}
+use Rattle.grammar.specs.OwnerReader.{ownerOf}
+use Rattle.grammar.proofs.OwnerReaderLaws.{owner-reads}
+use Rattle.grammar.specs.Content.{Content, one, fault, Headed, headOf, rdataOf, byRdata, byOwner, contentOf}
+use Rattle.grammar.specs.Reader.{Verdict, right, wrong, after, shifted, byEnding, read}
 use Rattle.grammar.proofs.ReaderLaws.{read-step}
 use Rattle.writer.proofs.WellFormedLaws.{owner-proper}
 use Rattle.table_fault.specs.Sweeping.{BeginsWith}
@@ -123,7 +125,7 @@ module _ (w n : List ℕ) (o : Owner w n) where
 
 -- the text of labels in lower case
 text-lowered : (ls : List (List ℕ)) → canonical (text ls) ≡ text (lowered ls)
-unfolding canonical text lower isUpper
+unfolding canonical text lower isUpper ascii
 text-lowered [] = refl
 text-lowered (l ∷ ls) = map-append lower l (46 ∷ text ls) ∙ ap (λ (r : List ℕ). map lower l ++ 46 ∷ r) (text-lowered ls)
 
@@ -134,7 +136,7 @@ owner-text w n o =
 
 -- names with one text are the same
 one-text-of : (n m : List ℕ) → Proper n → Proper m → textOf n ≡ textOf m → n ≡ m
-one-text-of n m p q e = one-name (textOf m) n m (subst (λ (w : List ℕ). Name.Spells w n) e (spelled n p)) (spelled m q)
+one-text-of n m p q e = one-name (textOf m) n m (subst (λ (w : List ℕ). Name.SpellsName w n) e (spelled n p)) (spelled m q)
 
 module _ (u n m : List ℕ) (h : BeginsWith u n) where
   pub begins-length : length (h .word) + 1 ≡ length n

@@ -11,6 +11,8 @@ use entry::TYPE_AAAA;
 use entry::read_entry;
 use grammar::LISTING_LIMIT;
 use name::wire::matches;
+use slot_row::RECORDS;
+use slot_row::SLOTS;
 ghost use mathlib.Core.Path.{_≡_};
 ghost use mathlib.Core.List.{List};
 ghost use Prim.Native.Nat.{ℕ, _+_, _*_, _%_, _^_, _≤_, _<_};
@@ -18,15 +20,12 @@ ghost use lib.ListN.{length, drop, set};
 ghost use Rattle.base.specs.Logic.{Decides};
 ghost use Rattle.grammar.specs.Listing.{ResourceRecord};
 ghost use Rattle.listing.specs.Giving.{Last, end, Gives};
+ghost use Rattle.listing.specs.Reading.{limit};
 ghost use Rattle.name.specs.Name.{Proper, canonical};
 ghost use Rattle.name.specs.Promise.{textOf};
+ghost use Rattle.slots.specs.Sizes.{mostNames, mostRecords};
+ghost use Rattle.table_fault.specs.Judging.{IndexOf, withoutSlots, Judges};
 ghost use Rattle.table_fault.specs.Sweeping as spec;
-
-// How many names a sweep keeps: as many as a table has.
-const KEPT: usize = 64;
-
-// How many records a table has at most: three to a name.
-pub const RECORDS: usize = 192;
 
 // How many bytes of a name go into its number at most.
 const MARKED: usize = 32;
@@ -112,8 +111,8 @@ fn is_owner(text: &[u8], at: usize, name: &[u8]) -> bool
 
 // Where a name stands among those that are kept; how many they are, if it does not.
 fn index_of(text: &[u8], starts: &[u32], marks: &[u32], used: usize, m: u32, name: &[u8]) -> usize
-    requires { ⌜ (used ≤ length (now starts)) × (used ≤ length (now marks)) × (spec.KeptSome (now text) (now starts) (now marks) used) × (Proper (now name)) × (m ≡ spec.mark (now name)) ⌝ }
-    ensures { λ r. ⌜ ((ns : List (List ℕ)) → used ≡ length ns → spec.Kept (now (text .entry)) (now (starts .entry)) (now (marks .entry)) ns → spec.IndexOf ns (now (name .entry)) r) ⌝ }
+    requires { ⌜ (used ≤ length (now starts)) × (used ≤ length (now marks)) × (spec.SomeMarked (now text) (now starts) (now marks) used) × (Proper (now name)) × (m ≡ spec.mark (now name)) ⌝ }
+    ensures { λ r. ⌜ ((ns : List (List ℕ)) → used ≡ length ns → spec.AllMarked (now (text .entry)) (now (starts .entry)) (now (marks .entry)) ns → IndexOf ns (now (name .entry)) r) ⌝ }
 {
     let mut i: usize = 0;
     while i < used {
@@ -128,19 +127,19 @@ fn index_of(text: &[u8], starts: &[u32], marks: &[u32], used: usize, m: u32, nam
 }
 
 // What an entry is: faulty, with the number of its fault; a record, with where its name stands among those that are kept; or neither.
-pub struct Seen {
-    pub next: usize,
-    pub index: usize,
-    pub mark: u32,
-    pub number: u32,
-    pub bit: u8,
-    pub found: bool,
-    pub faulty: bool,
+struct Swept {
+    next: usize,
+    index: usize,
+    mark: u32,
+    number: u32,
+    bit: u8,
+    found: bool,
+    faulty: bool,
 }
 
 // What a sweep came to: a faulty entry; two records alike, and where it stopped; none alike and all names kept; or, of the names that it kept, none alike, and the first
 // record of another name at an offset.
-pub enum Outcome {
+enum SweepOutcome {
     Fault { number: u32, offset: u32 },
     Repeat(usize),
     Whole,
@@ -148,9 +147,9 @@ pub enum Outcome {
 }
 
 // The entry that begins at `at`.
-fn look(text: &[u8], at: usize, starts: &[u32], marks: &[u32], used: usize) -> Seen
-    requires { ⌜ (length (now text) ≤ 65536) × (at < length (now text)) × (used ≤ length (now starts)) × (used ≤ length (now marks)) × (spec.KeptSome (now text) (now starts) (now marks) used) ⌝ }
-    ensures { λ s. ⌜ ((ns : List (List ℕ)) → used ≡ length ns → spec.Kept (now (text .entry)) (now (starts .entry)) (now (marks .entry)) ns → spec.SeenIs (now (text .entry)) at ns s) ⌝ }
+fn look(text: &[u8], at: usize, starts: &[u32], marks: &[u32], used: usize) -> Swept
+    requires { ⌜ (length (now text) ≤ limit) × (at < length (now text)) × (used ≤ length (now starts)) × (used ≤ length (now marks)) × (spec.SomeMarked (now text) (now starts) (now marks) used) ⌝ }
+    ensures { λ s. ⌜ ((ns : List (List ℕ)) → used ≡ length ns → spec.AllMarked (now (text .entry)) (now (starts .entry)) (now (marks .entry)) ns → spec.SweptIs (now (text .entry)) at ns s) ⌝ }
 {
     let entry = read_entry(text, at);
     let record = entry.record;
@@ -161,7 +160,7 @@ fn look(text: &[u8], at: usize, starts: &[u32], marks: &[u32], used: usize) -> S
             let owner: &[u8] = &record.owner;
             let len = record.owner_len as usize;
             let m = mark(&owner[..len]);
-            Seen {
+            Swept {
                 next: next,
                 index: index_of(text, starts, marks, used, m, &owner[..len]),
                 mark: m,
@@ -171,7 +170,7 @@ fn look(text: &[u8], at: usize, starts: &[u32], marks: &[u32], used: usize) -> S
                 faulty: false,
             }
         }
-        Content::Nothing => Seen {
+        Content::Nothing => Swept {
             next: next,
             index: used,
             mark: 0,
@@ -180,7 +179,7 @@ fn look(text: &[u8], at: usize, starts: &[u32], marks: &[u32], used: usize) -> S
             found: false,
             faulty: false,
         },
-        Content::Fault(number) => Seen {
+        Content::Fault(number) => Swept {
             next: next,
             index: used,
             mark: 0,
@@ -192,36 +191,36 @@ fn look(text: &[u8], at: usize, starts: &[u32], marks: &[u32], used: usize) -> S
     }
 }
 
-// Keeps where the name of one record more stands, as far as there is room.
-fn note(places: &mut [u8], count: usize, i: usize) -> usize
-    requires { ⌜ (count ≤ 65536) × (i ≤ 255) ⌝ }
-    ensures { λ r. ⌜ (r ≡ count + 1) × (now (places .exit) ≡ set (now (places .entry)) count i) ⌝ }
+// Keeps in which slot the name of one record more stands, as far as there is room.
+fn note(slots: &mut [u8], count: usize, i: usize) -> usize
+    requires { ⌜ (count ≤ limit) × (i ≤ 255) ⌝ }
+    ensures { λ r. ⌜ (r ≡ count + 1) × (now (slots .exit) ≡ set (now (slots .entry)) count i) ⌝ }
 {
-    if count < places.len() {
-        places[count] = i as u8;
+    if count < slots.len() {
+        slots[count] = i as u8;
         return count + 1;
     }
     count + 1
 }
 
 // What a sweep came to whose first record of a name that it could not keep stands at `rest`; that is the listing's length if there is none.
-fn ended(length: usize, rest: usize) -> Outcome
+fn ended(length: usize, rest: usize) -> SweepOutcome
     ensures { λ r. ⌜ r ≡ spec.endedAt length rest ⌝ }
 {
     if rest == length {
-        return Outcome::Whole;
+        return SweepOutcome::Whole;
     }
-    Outcome::Beyond(rest)
+    SweepOutcome::Beyond(rest)
 }
 
 // Reads all entries from `from` on, and looks at their records.
-fn sweep(text: &[u8], from: usize, places: &mut [u8]) -> Outcome
-    requires { ⌜ (length (now text) ≤ 65536) × (length (now places) ≡ 192) ⌝ }
-    ensures { λ r. ⌜ ((rs : List ResourceRecord) (l : Last) → Gives (now (text .entry)) from rs l → spec.Sweeps (now (text .entry)) from 64 rs l (now (places .exit)) r) ⌝ }
+fn sweep(text: &[u8], from: usize, slots: &mut [u8]) -> SweepOutcome
+    requires { ⌜ (length (now text) ≤ limit) × (length (now slots) ≡ mostRecords) ⌝ }
+    ensures { λ r. ⌜ ((rs : List ResourceRecord) (l : Last) → Gives (now (text .entry)) from rs l → spec.Sweeps (now (text .entry)) from mostNames rs l (now (slots .entry)) (now (slots .exit)) r) ⌝ }
 {
-    let mut starts = [0u32; KEPT];
-    let mut marks = [0u32; KEPT];
-    let mut types = [0u8; KEPT];
+    let mut starts = [0u32; SLOTS];
+    let mut marks = [0u32; SLOTS];
+    let mut types = [0u8; SLOTS];
     let mut used: usize = 0;
     let mut count: usize = 0;
     let mut rest = text.len();
@@ -229,7 +228,7 @@ fn sweep(text: &[u8], from: usize, places: &mut [u8]) -> Outcome
     while at < text.len() {
         let seen = look(text, at, &starts, &marks, used);
         if seen.faulty {
-            return Outcome::Fault {
+            return SweepOutcome::Fault {
                 number: seen.number,
                 offset: at as u32,
             };
@@ -239,13 +238,13 @@ fn sweep(text: &[u8], from: usize, places: &mut [u8]) -> Outcome
         let bit = seen.bit;
         at = seen.next;
         if seen.found {
-            count = note(places, count, i);
+            count = note(slots, count, i);
             if i < used {
                 if types[i] / bit % 2 == 1 {
-                    return Outcome::Repeat(at);
+                    return SweepOutcome::Repeat(at);
                 }
                 types[i] = types[i] + bit;
-            } else if i < KEPT {
+            } else if i < SLOTS {
                 starts[i] = here as u32;
                 marks[i] = seen.mark;
                 types[i] = bit;
@@ -259,25 +258,25 @@ fn sweep(text: &[u8], from: usize, places: &mut [u8]) -> Outcome
 }
 
 // There are more names than a table has: 32, unless two records are alike, here from `from` on, which comes first. The listing is right.
-fn fault_beyond(text: &[u8], from: usize, places: &mut [u8]) -> u32
-    requires { ⌜ (length (now text) ≤ 65536) × (length (now places) ≡ 192) × (spec.Right (now text) from) ⌝ }
+fn fault_beyond(text: &[u8], from: usize, slots: &mut [u8]) -> u32
+    requires { ⌜ (length (now text) ≤ limit) × (length (now slots) ≡ mostRecords) × (spec.Faultless (now text) from) ⌝ }
     ensures { λ r. ⌜ ((rs : List ResourceRecord) → Gives (now (text .entry)) from rs end → spec.RepeatOrFull rs r) ⌝ }
 {
     let mut at = from;
     loop {
-        match sweep(text, at, places) {
-            Outcome::Repeat(_) => return RECORD_REPEATED,
-            Outcome::Whole => return TABLE_FULL,
-            Outcome::Beyond(next) => at = next,
+        match sweep(text, at, slots) {
+            SweepOutcome::Repeat(_) => return RECORD_REPEATED,
+            SweepOutcome::Whole => return TABLE_FULL,
+            SweepOutcome::Beyond(next) => at = next,
             // never
-            Outcome::Fault { number, .. } => return number,
+            SweepOutcome::Fault { number, .. } => return number,
         }
     }
 }
 
 // Two records are alike: 35, unless an entry from `from` on is faulty, which comes first.
 fn fault_after(text: &[u8], from: usize) -> Answer
-    requires { ⌜ length (now text) ≤ 65536 ⌝ }
+    requires { ⌜ length (now text) ≤ limit ⌝ }
     ensures { λ r. ⌜ ((rs : List ResourceRecord) (l : Last) → Gives (now (text .entry)) from rs l → r ≡ spec.faultOr 35 l) ⌝ }
 {
     let mut at = from;
@@ -300,22 +299,44 @@ fn fault_after(text: &[u8], from: usize) -> Answer
     Answer::refused(RECORD_REPEATED)
 }
 
-// Reads a listing and answers 0 where its records make a table; `places` has then, for each of them in order, the slot in which its name stands. Refusals: 17, and 20 to 24
-// with the offset of the faulty entry; 35; 32.
-pub fn judge(text: &[u8], places: &mut [u8]) -> Answer
-    requires { ⌜ length (now places) ≡ 192 ⌝ }
-    ensures { λ r. ⌜ ((rs : List ResourceRecord) (l : Last) → Gives (now (text .entry)) 0 rs l → spec.Judges rs l (now (places .exit)) r) ⌝ }
+// What is found of a listing: the answer, and for each record in order the slot in which its name stands; zeros behind the last one, and wherever it is refused.
+pub struct Judged {
+    pub answer: Answer,
+    pub slots: [u8; RECORDS],
+}
+
+// A refusal has no slots.
+fn without_slots(answer: Answer) -> Judged
+    ensures { λ r. ⌜ r ≡ withoutSlots answer ⌝ }
+{
+    Judged {
+        answer: answer,
+        slots: [0u8; RECORDS],
+    }
+}
+
+// Reads a listing and answers 0, with the slots of its records, where they make a table. Refusals: 17, and 20 to 24 with the offset of the faulty entry; 35; 32.
+pub fn judge(text: &[u8]) -> Judged
+    ensures { λ r. ⌜ ((rs : List ResourceRecord) (l : Last) → Gives (now (text .entry)) 0 rs l → Judges rs l r) ⌝ }
 {
     if LISTING_LIMIT < text.len() {
-        return Answer::refused(LISTING_LONG);
+        return without_slots(Answer::refused(LISTING_LONG));
     }
-    match sweep(text, 0, places) {
-        Outcome::Fault { number, offset } => Answer::Refused {
+    let mut slots = [0u8; RECORDS];
+    match sweep(text, 0, &mut slots) {
+        SweepOutcome::Fault { number, offset } => without_slots(Answer::Refused {
             number: number,
             offset: offset,
+        }),
+        SweepOutcome::Repeat(at) => without_slots(fault_after(text, at)),
+        SweepOutcome::Whole => Judged {
+            answer: Answer::Accepted(0),
+            slots: slots,
         },
-        Outcome::Repeat(at) => fault_after(text, at),
-        Outcome::Whole => Answer::Accepted(0),
-        Outcome::Beyond(at) => Answer::refused(fault_beyond(text, at, places)),
+        SweepOutcome::Beyond(at) => without_slots(Answer::refused(fault_beyond(
+            text,
+            at,
+            &mut slots,
+        ))),
     }
 }

@@ -1,6 +1,6 @@
 -- What a load answers and leaves, by what was found of the listing, of its records and of the area. Assumes nothing.
 use Prim.Native.Nat.{ℕ, _+_, _≤_, _<_}
-use mathlib.Core.Path.{_≡_, refl, sym, subst, _∙_}
+use mathlib.Core.Path.{_≡_, refl, sym, ap, subst, _∙_}
 use mathlib.Core.Logic.{inl, inr}
 use mathlib.Core.List.{List, _++_}
 use native.Mathlib.Nat.{zero-add}
@@ -18,11 +18,13 @@ use Rattle.listing.specs.Giving.{Last, end, refusal, Gives, too-long, whole, fa
 use Rattle.base.proofs.AnswerLaws.{accepted≢refused}
 use Rattle.listing.proofs.Theorems.{some-giving}
 use Rattle.slots.specs.Form.{tableBytes}
+use Rattle.slots.specs.Sizes.{mostNames, tableSize}
 use Rattle.slots.proofs.TableLaws.{length-table}
 use Rattle.records.specs.Gathered.{tableOf}
 use Rattle.records.specs.Calls.{recordTests, areaTests, Loads}
 use Rattle.records.proofs.SoundLaws.{table-is}
-use Rattle.table_fault.specs.Sweeping.{Judges}
+use Rattle.table_fault.specs.Judging.{withoutSlots, Judges}
+use Rattle.table_fault.specs.declared.Judged.{Judged}
 use Rattle.table_fault.proofs.LookLaws.{given-well-formed}
 use Rattle.table_load.specs.Promise.{Loadable}
 
@@ -37,40 +39,44 @@ module _ (t : List ℕ) where
   gives-refused (too-long over) = Checked.too-long over
   gives-refused (faulty {n = n} {p = p} fits f e) = subst (λ (o : ℕ). Checked limit t (refused n o)) (sym (e ∙ zero-add p)) (Checked.faulty fits f)
 
-  module _ (ps : List ℕ) (r : Answer) (judged : (rs : List ResourceRecord) (l : Last) → Gives t 0 rs l → Judges rs l ps r) where
+  module _ (j : Judged) (judged : (rs : List ResourceRecord) (l : Last) → Gives t 0 rs l → Judges rs l j) where
+    answer-is : {r : Answer} → j ≡ withoutSlots r → j .answer ≡ r
+    unfolding withoutSlots
+    answer-is e = ap (λ (x : Judged). x .answer) e
+
     -- refused: so is the load
-    pub loads-refused : (n p : ℕ) → r ≡ the-variants.Refused n p → (area : List ℕ) → Loads limit 64 t area (the-variants.Refused n p) area
+    pub loads-refused : (n p : ℕ) → j .answer ≡ the-variants.Refused n p → (area : List ℕ) → Loads limit mostNames t area (the-variants.Refused n p) area
     loads-refused n p e area = let g = some-giving t 0 in go (g .0) (g .1) (g .2) (judged (g .0) (g .1) (g .2))
       where
-        go : (rs : List ResourceRecord) (l : Last) → Gives t 0 rs l → Judges rs l ps r → Loads limit 64 t area (the-variants.Refused n p) area
-        go rs (refusal m q) g j = Loads.not-read (gives-refused g) (sym e ∙ j) refl
-        go rs end g (inl j) = absurd (accepted≢refused (sym (j .0) ∙ e))
-        go rs end g (inr (m, j, f)) = Loads.faulty (gives-accepted g) (fault-before (recordTests 64 rs) (areaTests 64 area) m f) (sym e ∙ j) refl
+        go : (rs : List ResourceRecord) (l : Last) → Gives t 0 rs l → Judges rs l j → Loads limit mostNames t area (the-variants.Refused n p) area
+        go rs (refusal m q) g w = Loads.not-read (gives-refused g) (sym e ∙ answer-is w) refl
+        go rs end g (inl w) = absurd (accepted≢refused (sym (w .0) ∙ e))
+        go rs end g (inr (m, w, f)) = Loads.faulty (gives-accepted g) (fault-before (recordTests mostNames rs) (areaTests mostNames area) m f) (sym e ∙ answer-is w) refl
 
     -- accepted: the records make a table
-    pub loadable : (n : ℕ) → r ≡ the-variants.Accepted n → (rs : List ResourceRecord) × Loadable t ps rs
+    pub loadable : (n : ℕ) → j .answer ≡ the-variants.Accepted n → (rs : List ResourceRecord) × Loadable t (j .slots) rs
     loadable n e = let g = some-giving t 0 in go (g .0) (g .1) (g .2) (judged (g .0) (g .1) (g .2))
       where
-        go : (rs : List ResourceRecord) (l : Last) → Gives t 0 rs l → Judges rs l ps r → (rs : List ResourceRecord) × Loadable t ps rs
-        go rs (refusal m q) g j = absurd (accepted≢refused (sym e ∙ j))
-        go rs end g (inl j) = (rs, record { gives = g; single = j .1 .0; room = j .1 .1 .0; placed = j .2 })
-        go rs end g (inr (m, j, f)) = absurd (accepted≢refused (sym e ∙ j))
+        go : (rs : List ResourceRecord) (l : Last) → Gives t 0 rs l → Judges rs l j → (rs : List ResourceRecord) × Loadable t (j .slots) rs
+        go rs (refusal m q) g w = absurd (accepted≢refused (sym e ∙ answer-is w))
+        go rs end g (inl w) = (rs, record { gives = g; single = w .1 .0; room = w .1 .1 .0; placed = w .2 .placed })
+        go rs end g (inr (m, w, f)) = absurd (accepted≢refused (sym e ∙ answer-is w))
 
   -- ---- records that make a table
 
   module _ (ps : List ℕ) (rs : List ResourceRecord) (h : Loadable t ps rs) where
-    all : AllHold (recordTests 64 rs)
+    all : AllHold (recordTests mostNames rs)
     all = (h .single, (h .room, tt))
 
-    pub loads-short : (area : List ℕ) (r : Answer) → length area < 19968 → r ≡ the-variants.Refused 13 0 → Loads limit 64 t area r area
+    pub loads-short : (area : List ℕ) (r : Answer) → length area < tableSize → r ≡ the-variants.Refused 13 0 → Loads limit mostNames t area r area
     loads-short area r short e =
-        Loads.faulty (gives-accepted (h .gives)) (fault-after (recordTests 64 rs) (areaTests 64 area) 13 all (inl (λ long. omega arith, refl))) e refl
+        Loads.faulty (gives-accepted (h .gives)) (fault-after (recordTests mostNames rs) (areaTests mostNames area) 13 all (inl (λ long. omega arith, refl))) e refl
 
     -- the table has the bytes that were lent, and what stands behind them stays
-    table-size : 0 + length (tableBytes 64 (tableOf rs)) ≡ 19968
-    table-size = omega (arith, length-table 64 _ _ (table-is rs (given-well-formed (h .gives)) 64 (h .room)))
+    table-size : 0 + length (tableBytes mostNames (tableOf rs)) ≡ tableSize
+    table-size = omega (arith, length-table mostNames _ _ (table-is rs (given-well-formed (h .gives)) mostNames (h .room)))
 
-    pub loads-all : (area s : List ℕ) → 19968 ≤ length area → s ≡ tableBytes 64 (tableOf rs) → Loads limit 64 t area (the-variants.Accepted 0) (s ++ drop 19968 area)
+    pub loads-all : (area s : List ℕ) → tableSize ≤ length area → s ≡ tableBytes mostNames (tableOf rs) → Loads limit mostNames t area (the-variants.Accepted 0) (s ++ drop tableSize area)
     unfolding overlay
     loads-all area s long filled =
-        Loads.loaded (gives-accepted (h .gives)) (hold-both (recordTests 64 rs) (areaTests 64 area) all (long, tt)) refl (λ i. filled i ++ drop (sym table-size i) area)
+        Loads.loaded (gives-accepted (h .gives)) (hold-both (recordTests mostNames rs) (areaTests mostNames area) all (long, tt)) refl (λ i. filled i ++ drop (sym table-size i) area)

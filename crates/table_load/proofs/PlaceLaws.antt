@@ -5,17 +5,17 @@ use mathlib.Core.List.{List}
 use native.Mathlib.Omega.{arith}
 use lib.ListN.{length, take, replicate}
 use lib.Seq.{take-at}
+use Rattle.base.specs.Bytes.{zeroFilled}
 use Rattle.base.proofs.DhcidLaws.{dhcid-length}
 use Rattle.name.specs.Name.{canonical}
 use Rattle.name.proofs.WireLaws.{proper-short}
-use Rattle.dhcid_text.specs.DhcidReading.{zeroFilled}
 use Rattle.grammar.specs.Listing.{RecordType, ResourceRecord}
-use Rattle.entry.specs.Held.{number, held}
+use Rattle.entry.specs.Held.{typeNumber, held}
 use Rattle.entry.specs.declared.Record.{Record}
 use Rattle.writer.specs.Line.{RdataOf, Holds}
 use Rattle.writer.proofs.PlaceLaws.{nameIn, name-held}
-use Rattle.slots.specs.Fields.{fieldSize}
 use Rattle.slots.specs.Form.{TableEntry}
+use Rattle.slots.specs.Sizes.{fieldSize}
 use Rattle.slots.specs.declared.Rtype.{Rtype}
 use Rattle.records.specs.Promise.{rtypeOf, written, stored}
 use Rattle.table_load.specs.Promise.{numbered, AtSlot, Storable}
@@ -23,7 +23,7 @@ use Rattle.table_load.specs.Promise.{numbered, AtSlot, Storable}
 -- ---- the parts of a place
 
 -- the type by the number that stands in a place
-type-numbered : (k : RecordType) → numbered (number k) ≡ rtypeOf k
+type-numbered : (k : RecordType) → numbered (typeNumber k) ≡ rtypeOf k
 type-numbered RecordType.A = refl
 type-numbered RecordType.AAAA = refl
 type-numbered RecordType.DHCID = refl
@@ -41,18 +41,18 @@ data-held bs n e = take-at bs (replicate (35 - length bs) 0) n e
 
 module _ (p : Record) (r : ResourceRecord) (h : Holds p r) where
   name-is : nameIn p ≡ r .owner
-  name-is = name-held p r (h .place)
+  name-is = name-held p r (h .form)
 
   type-is : (k : Rtype) → k ≡ numbered (p .rtype) → k ≡ rtypeOf (r .rtype)
   unfolding held
-  type-is k e = e ∙ ap (λ (q : Record). numbered (q .rtype)) (h .place) ∙ type-numbered (r .rtype)
+  type-is k e = e ∙ ap (λ (q : Record). numbered (q .rtype)) (h .form) ∙ type-numbered (r .rtype)
 
   size-is : (k : Rtype) → k ≡ numbered (p .rtype) → length (r .rdata) ≡ fieldSize k
   size-is k e = data-size (r .rtype) (r .rdata) (h .well-formed .rdata) ∙ sym (ap fieldSize (type-is k e))
 
   data-is : (k : Rtype) (n : ℕ) → k ≡ numbered (p .rtype) → n ≡ fieldSize k → take n (p .rdata) ≡ r .rdata
   unfolding held
-  data-is k n e s = ap (λ (q : Record). take n (q .rdata)) (h .place) ∙ data-held (r .rdata) n (size-is k e ∙ sym s)
+  data-is k n e s = ap (λ (q : Record). take n (q .rdata)) (h .form) ∙ data-held (r .rdata) n (size-is k e ∙ sym s)
 
 -- ---- their write
 

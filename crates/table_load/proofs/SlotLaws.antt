@@ -9,10 +9,11 @@ use lib.ListN.{length, getD}
 use borrow.Author.Tests.{lt-ltb}
 use Rattle.base.proofs.Tests.{eq-eqBytes, ne-eqBytes}
 use Rattle.slots.specs.Entry.{names, position, Distinct}
-use Rattle.slots.specs.Form.{TableEntry, slotSize}
+use Rattle.slots.specs.Form.{TableEntry}
+use Rattle.slots.specs.Sizes.{mostNames, slotSize}
 use Rattle.table.specs.Steps.{find}
-use Rattle.table.specs.Promise.{placedBy, placeOf}
-use Rattle.table.specs.declared.place.Place.the-variants.{Held, Free, Full}
+use Rattle.table.specs.Promise.{slotBy, slotFor}
+use Rattle.table.specs.declared.slot_for.SlotFor.the-variants.{Held, Free, Full}
 use Rattle.table_fault.proofs.IndexLaws.{each-at}
 
 record Stands (n : List ℕ) (t : List TableEntry) (i : ℕ) : Type 0 where
@@ -36,12 +37,12 @@ stands n (e ∷ t) (suc i) (Distinct.more h d) lt own =
     }
 
 module _ (n : List ℕ) (t : List TableEntry) where
-  pub place-held : (i : ℕ) → Distinct (names t) → i < length (names t) → getD (names t) i [] ≡ n → placeOf 64 n t ≡ Held (slotSize * i)
-  unfolding placeOf
-  place-held i d lt own = let s = stands n t i d lt own in λ j. placedBy (s .found j) 64 (s .here j) (length t)
+  pub slot-held : (i : ℕ) → Distinct (names t) → i < length (names t) → getD (names t) i [] ≡ n → slotFor mostNames n t ≡ Held (slotSize * i)
+  unfolding slotFor
+  slot-held i d lt own = let s = stands n t i d lt own in λ j. slotBy (s .found j) mostNames (s .here j) (length t)
 
-  pub place-free : find n t ≡ none → length t < 64 → placeOf 64 n t ≡ Free (slotSize * length t)
-  unfolding placeOf
-  place-free absent room =
-      ap (λ (o : Option TableEntry). placedBy o 64 (position n t) (length t)) absent
-      ∙ ap (λ (b : Bool). cond b (Free (slotSize * length t)) Full) (lt-ltb (length t) 64 room)
+  pub slot-free : find n t ≡ none → length t < mostNames → slotFor mostNames n t ≡ Free (slotSize * length t)
+  unfolding slotFor
+  slot-free absent room =
+      ap (λ (o : Option TableEntry). slotBy o mostNames (position n t) (length t)) absent
+      ∙ ap (λ (b : Bool). cond b (Free (slotSize * length t)) Full) (lt-ltb (length t) mostNames room)

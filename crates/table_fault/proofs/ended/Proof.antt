@@ -1,7 +1,7 @@
 use mathlib.Core.Bool.{Bool, cond}
 use mathlib.Core.Path.{sym, ap}
 use borrow.Author.Tests.{eq-eqb, ne-eqb}
-use Rattle.table_fault.specs.declared.Outcome.the-variants.{Whole, Beyond}
+use Rattle.table_fault.specs.declared.SweepOutcome.the-variants.{Whole, Beyond}
 use Rattle.table_fault.proofs.ended.Statement.{statement}
 use Rattle.table_fault.proofs.ended.Tie as tie
 

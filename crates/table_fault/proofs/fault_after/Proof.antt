@@ -4,6 +4,7 @@ use mathlib.Core.List.{List}
 use native.Mathlib.Omega.{arith}
 use lib.ListN.{length}
 use borrow.Author.Needs.{needs}
+use Rattle.entry.proofs.KnownLaws.{entry-is}
 use Rattle.grammar.specs.Listing.{ResourceRecord}
 use Rattle.listing.specs.Giving.{Last, Gives}
 use Rattle.table_fault.specs.Sweeping.{faultOr}
@@ -43,10 +44,15 @@ returns c =
     let e = c .before .before .before .read-entry in
     λ rs last g.
     let k = l .inv rs last g in
-    sym (ap (faultOr 35) (fault-given t (a .pre) (l .at) (k .0) last (k .1) (e .result) (e .ensures) _ (c .before .content .given .1)))
+    sym (ap (faultOr 35) (fault-given t (a .pre) (l .at) (k .0) last (k .1) (omega arith) (e .result) (e .ensures) _ (c .before .content .given .1)))
 
 loop-less : tie.Need-loop-less Inv-loop μ-loop
-loop-less c = let e = c .before .before .read-entry in omega (arith, e .ensures .on (omega arith), e .ensures .within)
+loop-less c =
+    let t = c .before .before .before .before .before .before .args .text .now in
+    let l = c .before .before .before .before .loop in
+    let e = c .before .before .read-entry in
+    let is = entry-is t (l .at) (omega arith) (e .result) (e .ensures) in
+    omega (arith, is .on, is .within)
 
 loop-again : tie.Need-loop-again Inv-loop μ-loop
 loop-again c =
@@ -56,10 +62,15 @@ loop-again c =
     let e = c .before .before .read-entry in
     λ rs last g.
     let k = l .inv rs last g in
-    (k .0, nothing-given t (a .pre) (l .at) (k .0) last (k .1) (e .result) (e .ensures) (e .ensures .on (omega arith)) (c .enum-told .given .1))
+    (k .0, nothing-given t (a .pre) (l .at) (k .0) last (k .1) (omega arith) (e .result) (e .ensures) (c .enum-told .given .1))
 
 loop-less-2 : tie.Need-loop-less-2 Inv-loop μ-loop
-loop-less-2 c = let e = c .before .before .read-entry in omega (arith, e .ensures .on (omega arith), e .ensures .within)
+loop-less-2 c =
+    let t = c .before .before .before .before .before .before .args .text .now in
+    let l = c .before .before .before .before .loop in
+    let e = c .before .before .read-entry in
+    let is = entry-is t (l .at) (omega arith) (e .result) (e .ensures) in
+    omega (arith, is .on, is .within)
 
 loop-again-2 : tie.Need-loop-again-2 Inv-loop μ-loop
 loop-again-2 c =
@@ -69,7 +80,7 @@ loop-again-2 c =
     let e = c .before .before .read-entry in
     λ rs last g.
     let k = l .inv rs last g in
-    let f = record-given t (a .pre) (l .at) (k .0) last (k .1) (e .result) (e .ensures) (e .ensures .on (omega arith)) (c .enum-told2 .given .1) in
+    let f = record-given t (a .pre) (l .at) (k .0) last (k .1) (omega arith) (e .result) (e .ensures) (c .enum-told2 .given .1) in
     (f .later, f .gives)
 
 refused-requires : tie.Need-refused-requires Inv-loop μ-loop

@@ -5,16 +5,16 @@ use lib.ListN.{length}
 use borrow.Author.Needs.{needs}
 use Rattle.grammar.specs.Listing.{ResourceRecord}
 use Rattle.listing.specs.Giving.{end, Gives}
-use Rattle.table_fault.specs.Sweeping.{Right}
+use Rattle.table_fault.specs.Sweeping.{Faultless}
 use Rattle.table_fault.proofs.FaultLaws.{Sought, sought-none, sought-repeat, sought-whole, sought-fault, sought-on, sought-more}
 use Rattle.table_fault.proofs.fault_beyond.Statement.{statement}
 use Rattle.table_fault.proofs.fault_beyond.Tie as tie
 
 abbrev Inv-loop : tie.InvT-loop
-Inv-loop text from places₀ at₀ places at = (length places ≡ length places₀) × ((rs : List ResourceRecord) → Gives text from rs end → Sought text at rs)
+Inv-loop text from slots₀ at₀ slots at = (length slots ≡ length slots₀) × ((rs : List ResourceRecord) → Gives text from rs end → Sought text at rs)
 
 abbrev μ-loop : tie.MeasureT-loop
-μ-loop text from places₀ at₀ places at = length text - at
+μ-loop text from slots₀ at₀ slots at = length text - at
 
 loop-holds : tie.Need-loop-holds Inv-loop μ-loop
 loop-holds c = (refl, λ rs g. sought-none _ _ rs g)
@@ -33,7 +33,7 @@ returns c =
     let k = c .before .before .before .before .sweep in
     λ rs g.
     let s = c .before .before .before .before .before .before .loop .inv .1 rs g in
-    sought-repeat _ _ rs s _ (k .result) (k .ensures (s .left) end (s .gives)) _ (c .enum-told .given .1)
+    sought-repeat _ _ rs s _ _ (k .result) (k .ensures (s .left) end (s .gives)) _ (c .enum-told .given .1)
 
 enum-told-2 : tie.Need-enum-told-2 Inv-loop μ-loop
 enum-told-2 c = search needs
@@ -46,18 +46,18 @@ returns-2 c =
     let k = c .before .before .before .before .sweep in
     λ rs g.
     let s = c .before .before .before .before .before .before .loop .inv .1 rs g in
-    sought-whole _ _ rs s _ (k .result) (k .ensures (s .left) end (s .gives)) (c .enum-told2 .given .1)
+    sought-whole _ _ rs s _ _ (k .result) (k .ensures (s .left) end (s .gives)) (c .enum-told2 .given .1)
 
 enum-known-next : tie.Need-enum-known-next Inv-loop μ-loop
 enum-known-next c = search needs
 
 loop-less : tie.Need-loop-less Inv-loop μ-loop
-unfolding Right
+unfolding Faultless
 loop-less c =
     let k = c .before .before .before .before .before .sweep in
     let p = c .before .before .before .before .before .before .before .before .before .before .pre .2 in
     let s = c .before .before .before .before .before .before .before .loop .inv .1 (p .0) (p .1) in
-    sought-on _ _ (p .0) s _ (k .result) (k .ensures (s .left) end (s .gives)) _ (c .before .next .given .1)
+    sought-on _ _ (p .0) s _ _ (k .result) (k .ensures (s .left) end (s .gives)) _ (c .before .next .given .1)
 
 loop-again : tie.Need-loop-again Inv-loop μ-loop
 loop-again c =
@@ -65,7 +65,7 @@ loop-again c =
       search needs,
       λ rs g.
           let s = c .before .before .before .before .before .before .before .loop .inv .1 rs g in
-          sought-more _ _ rs s _ (k .result) (k .ensures (s .left) end (s .gives)) _ (c .before .next .given .1),
+          sought-more _ _ rs s _ _ (k .result) (k .ensures (s .left) end (s .gives)) _ (c .before .next .given .1),
     )
 
 enum-known-number : tie.Need-enum-known-number Inv-loop μ-loop
@@ -79,7 +79,7 @@ returns-3 c =
     let k = c .before .before .before .before .before .sweep in
     λ rs g.
     let s = c .before .before .before .before .before .before .before .loop .inv .1 rs g in
-    absurd (sought-fault _ _ rs s _ (k .result) (k .ensures (s .left) end (s .gives)) _ _ (c .before .number .given .1))
+    absurd (sought-fault _ _ rs s _ _ (k .result) (k .ensures (s .left) end (s .gives)) _ _ (c .before .number .given .1))
 
 pub fault-beyond-spec : {M : Type 1} → statement M
 fault-beyond-spec =

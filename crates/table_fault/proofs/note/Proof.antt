@@ -4,11 +4,11 @@ use borrow.Author.Needs.{needs}
 use Rattle.table_fault.proofs.note.Statement.{statement}
 use Rattle.table_fault.proofs.note.Tie as tie
 
-cast-places : tie.Need-cast-places
-cast-places c = search needs
+cast-slots : tie.Need-cast-slots
+cast-slots c = search needs
 
-slice-write-places : tie.Need-slice-write-places
-slice-write-places c = search needs
+slice-write-slots : tie.Need-slice-write-slots
+slice-write-slots c = search needs
 
 add-result : tie.Need-add-result
 add-result c = search needs
@@ -29,8 +29,8 @@ pub note-spec : {M : Type 1} → statement M
 note-spec =
     tie.close
     (tie.spec
-    cast-places
-    slice-write-places
+    cast-slots
+    slice-write-slots
     add-result
     same-length
     returns

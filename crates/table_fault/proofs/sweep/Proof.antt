@@ -8,22 +8,23 @@ use Rattle.grammar.specs.Listing.{ResourceRecord}
 use Rattle.listing.specs.Giving.{Last, Gives}
 use Rattle.listing.proofs.Theorems.{some-giving}
 use Rattle.records.specs.Gathered.{owners}
-use Rattle.table_fault.specs.Sweeping.{KeptSome, Sweeps}
+use Rattle.slots.specs.Sizes.{mostNames}
+use Rattle.table_fault.specs.Sweeping.{SomeMarked, Sweeps}
 use Rattle.table_fault.proofs.GivenLaws.{end-given}
-use Rattle.table_fault.proofs.SweepLaws.{Swept, swept-none, index-low, repeated, ended-sweeps}
+use Rattle.table_fault.proofs.SweepLaws.{SweptTo, swept-none, index-low, repeated, ended-sweeps}
 use Rattle.table_fault.proofs.TypeLaws.{bit-some, bit-small, flagged-small}
 use Rattle.table_fault.proofs.TurnLaws.{swept-still, swept-known, swept-new, swept-beyond, swept-past}
 use Rattle.table_fault.proofs.sweep.Statement.{statement}
 use Rattle.table_fault.proofs.sweep.Tie as tie
 
 abbrev Inv-loop : tie.InvT-loop
-Inv-loop text from places₀ starts₀ marks₀ types₀ used₀ count₀ rest₀ at₀ places starts marks types used count rest at = (rs : List ResourceRecord) (l : Last) → Gives text from rs l → Swept text from l rs starts marks types used rest at places count
+Inv-loop text from slots₀ starts₀ marks₀ types₀ used₀ count₀ rest₀ at₀ slots starts marks types used count rest at = (rs : List ResourceRecord) (l : Last) → Gives text from rs l → SweptTo text from l slots₀ rs starts marks types used rest at slots count
 
 abbrev μ-loop : tie.MeasureT-loop
-μ-loop text from places₀ starts₀ marks₀ types₀ used₀ count₀ rest₀ at₀ places starts marks types used count rest at = length text - at
+μ-loop text from slots₀ starts₀ marks₀ types₀ used₀ count₀ rest₀ at₀ slots starts marks types used count rest at = length text - at
 
 loop-holds : tie.Need-loop-holds Inv-loop μ-loop
-loop-holds c = λ rs l g. swept-none _ _ l rs _ _ _ _ g (search needs) (search needs) (search needs) (c .before .before .pre .1)
+loop-holds c = λ rs l g. swept-none _ _ l _ rs _ _ _ g (search needs) (search needs) (search needs) (c .before .before .pre .1)
 
 slice-aggregate-look : tie.Need-slice-aggregate-look Inv-loop μ-loop
 slice-aggregate-look c =
@@ -40,7 +41,7 @@ slice-aggregate-look-2 c =
     sym (w .marks-size)
 
 look-requires : tie.Need-look-requires Inv-loop μ-loop
-unfolding KeptSome
+unfolding SomeMarked
 look-requires c κs =
     let a = c .before .before .before .before .before .before in
     let g = some-giving (a .args .text .now) (a .args .from) in
@@ -55,7 +56,7 @@ same-length c =
     let a = c .before .before .before .before .before .before .before .before in
     let g = some-giving (a .args .text .now) (a .args .from) in
     let w = c .before .before .before .before .before .loop .inv (g .0) (g .1) (g .2) in
-    w .places-size ∙ sym (a .pre .1)
+    w .slots-size ∙ sym (a .pre .1)
 
 returns : tie.Need-returns Inv-loop μ-loop
 returns c =
@@ -95,7 +96,7 @@ same-length-2 c =
     let a = c .before .before .before .before .before .before .before .before .before .before .before .before .before .before .before in
     let g = some-giving (a .args .text .now) (a .args .from) in
     let w = c .before .before .before .before .before .before .before .before .before .before .before .before .loop .inv (g .0) (g .1) (g .2) in
-    ap length (c .before .before .before .before .note .ensures .1) ∙ length-set (c .before .before .before .before .before .before .before .before .before .before .before .before .loop .places) (c .before .before .before .before .before .before .before .before .before .before .before .before .loop .count) (c .before .before .before .before .before .before .before .before .look .result .index) ∙ w .places-size ∙ sym (a .pre .1)
+    ap length (c .before .before .before .before .note .ensures .1) ∙ length-set (c .before .before .before .before .before .before .before .before .before .before .before .before .loop .slots) (c .before .before .before .before .before .before .before .before .before .before .before .before .loop .count) (c .before .before .before .before .before .before .before .before .look .result .index) ∙ w .slots-size ∙ sym (a .pre .1)
 
 returns-2 : tie.Need-returns-2 Inv-loop μ-loop
 returns-2 c =
@@ -104,7 +105,7 @@ returns-2 c =
     let w = c .before .before .before .before .before .before .before .before .before .before .before .before .loop .inv rs l g in
     let s = k .ensures (owners (w .before)) (w .long) (w .kept) in
     let m = s .met (c .before .before .before .before .before .before .if2 .taken) (w .ahead) l (w .gives) in
-    repeated _ _ l w (k .result) m (c .before .if3 .taken) (c .if4 .taken)
+    repeated _ _ l _ w (k .result) m (c .before .if3 .taken) (c .if4 .taken)
 
 array-read-types : tie.Need-array-read-types Inv-loop μ-loop
 array-read-types c =
@@ -144,7 +145,7 @@ loop-again c =
     let s = k .ensures (owners (w .before)) (w .long) (w .kept) in
     let m = s .met (c .before .before .before .before .before .before .if2 .taken) (w .ahead) l (w .gives) in
     let n = c .before .before .before .before .note in
-    swept-known _ _ l w (k .result) (s .on) m _ _ (n .ensures .1) (n .ensures .0) (c .before .if3 .taken) (c .if4 .left)
+    swept-known _ _ l _ w (k .result) (s .on) m _ _ (n .ensures .1) (n .ensures .0) (c .before .if3 .taken) (c .if4 .left)
 
 cast-starts : tie.Need-cast-starts Inv-loop μ-loop
 cast-starts c = let a = c .before .before .before .before .before .before .before .before .before .before .before .before .before .before .before in omega (arith, a .pre .0)
@@ -182,7 +183,7 @@ loop-again-2 c =
     let s = k .ensures (owners (w .before)) (w .long) (w .kept) in
     let m = s .met (c .before .before .before .before .before .before .if2 .taken) (w .ahead) l (w .gives) in
     let n = c .before .before .before .before .note in
-    swept-new _ _ l w (k .result) (s .on) m _ _ (n .ensures .1) (n .ensures .0) (c .before .if3 .left) (c .if5 .taken)
+    swept-new _ _ l _ w (k .result) (s .on) m _ _ (n .ensures .1) (n .ensures .0) (c .before .if3 .left) (c .if5 .taken)
 
 loop-less-3 : tie.Need-loop-less-3 Inv-loop μ-loop
 loop-less-3 c =
@@ -199,7 +200,7 @@ loop-again-3 c =
     let s = k .ensures (owners (w .before)) (w .long) (w .kept) in
     let m = s .met (c .before .before .before .before .before .before .before .if2 .taken) (w .ahead) l (w .gives) in
     let n = c .before .before .before .before .before .note in
-    swept-beyond _ _ l w (k .result) (s .on) m _ _ (n .ensures .1) (n .ensures .0) (c .before .before .if3 .left) (c .before .if5 .left) (c .before .before .before .before .before .before .before .before .before .before .before .before .loop-test .taken) (c .if6 .taken)
+    swept-beyond _ _ l _ w (k .result) (s .on) m _ _ (n .ensures .1) (n .ensures .0) (c .before .before .if3 .left) (c .before .if5 .left) (c .before .before .before .before .before .before .before .before .before .before .before .before .loop-test .taken) (c .if6 .taken)
 
 loop-less-4 : tie.Need-loop-less-4 Inv-loop μ-loop
 loop-less-4 c =
@@ -216,7 +217,7 @@ loop-again-4 c =
     let s = k .ensures (owners (w .before)) (w .long) (w .kept) in
     let m = s .met (c .before .before .before .before .before .before .before .if2 .taken) (w .ahead) l (w .gives) in
     let n = c .before .before .before .before .before .note in
-    swept-past _ _ l w (k .result) (s .on) m _ _ (n .ensures .1) (n .ensures .0) (c .before .before .if3 .left) (c .before .if5 .left) (c .before .before .before .before .before .before .before .before .before .before .before .before .loop-test .taken) (c .if6 .left)
+    swept-past _ _ l _ w (k .result) (s .on) m _ _ (n .ensures .1) (n .ensures .0) (c .before .before .if3 .left) (c .before .if5 .left) (c .before .before .before .before .before .before .before .before .before .before .before .before .loop-test .taken) (c .if6 .left)
 
 loop-less-5 : tie.Need-loop-less-5 Inv-loop μ-loop
 loop-less-5 c =
@@ -231,7 +232,7 @@ loop-again-5 c =
     λ rs l g.
     let w = c .before .before .before .before .before .before .loop .inv rs l g in
     let s = k .ensures (owners (w .before)) (w .long) (w .kept) in
-    swept-still _ _ l w (k .result .next) (s .on) (s .nothing (c .before .if1 .left) (c .if2 .left) (w .ahead) l (w .gives))
+    swept-still _ _ l _ w (k .result .next) (s .on) (s .nothing (c .before .if1 .left) (c .if2 .left) (w .ahead) l (w .gives))
 
 ended-requires : tie.Need-ended-requires Inv-loop μ-loop
 ended-requires c κs = search needs
@@ -241,7 +242,7 @@ same-length-3 c =
     let a = c .before .before .before .before .before in
     let g = some-giving (a .args .text .now) (a .args .from) in
     let w = c .before .before .loop .inv (g .0) (g .1) (g .2) in
-    w .places-size ∙ sym (a .pre .1)
+    w .slots-size ∙ sym (a .pre .1)
 
 returns-3 : tie.Need-returns-3 Inv-loop μ-loop
 returns-3 c =
@@ -249,7 +250,7 @@ returns-3 c =
     λ rs l g.
     let w = c .before .before .loop .inv rs l g in
     let last = end-given (a .args .text .now) (a .pre .0) _ (w .ahead) l (w .gives) (c .before .loop-test .left) in
-    subst (Sweeps _ _ 64 rs l _) (sym (c .ended .ensures)) (ended-sweeps _ _ l w (last .0) (last .1))
+    subst (Sweeps _ _ mostNames rs l _ _) (sym (c .ended .ensures)) (ended-sweeps _ _ l _ w (last .0) (last .1))
 
 pub sweep-spec : {M : Type 1} → statement M
 sweep-spec =

@@ -9,10 +9,10 @@ use Rattle.table_load.proofs.fill.Statement.{statement}
 use Rattle.table_load.proofs.fill.Tie as tie
 
 abbrev Inv-loop : tie.InvT-loop
-Inv-loop table₀ text places at₀ count₀ used₀ table at count used = (length table ≡ length table₀) × Filled text places (record { at = at; count = count; used = used }) table
+Inv-loop table₀ text slots at₀ count₀ used₀ table at count used = (length table ≡ length table₀) × Filled text slots (record { at = at; count = count; used = used }) table
 
 abbrev μ-loop : tie.MeasureT-loop
-μ-loop table₀ text places at₀ count₀ used₀ table at count used = length text - at
+μ-loop table₀ text slots at₀ count₀ used₀ table at count used = length text - at
 
 make-empty-requires : tie.Need-make-empty-requires Inv-loop μ-loop
 make-empty-requires c κs = search needs

@@ -3,6 +3,7 @@ use native.Mathlib.Omega.{arith}
 use lib.ListN.{length, length-take}
 use borrow.Author.Needs.{needs}
 use Rattle.slots.specs.Form.{tableBytes}
+use Rattle.slots.specs.Sizes.{mostNames}
 use Rattle.slots.proofs.EffectLaws.{field-size-most}
 use Rattle.table_load.proofs.PlaceLaws.{writable, written-stored}
 use Rattle.table_load.proofs.store.Statement.{statement}
@@ -17,8 +18,8 @@ slice-aggregate-bytes c = search needs
 rtype-of-requires : tie.Need-rtype-of-requires
 rtype-of-requires c κs = search needs
 
-data-size-requires : tie.Need-data-size-requires
-data-size-requires c κs = search needs
+field-size-requires : tie.Need-field-size-requires
+field-size-requires c κs = search needs
 
 slice-aggregate-write-in : tie.Need-slice-aggregate-write-in
 slice-aggregate-write-in c =
@@ -29,13 +30,13 @@ slice-aggregate-write-in-2 : tie.Need-slice-aggregate-write-in-2
 slice-aggregate-write-in-2 c =
     let d = c .before .before .before in
     let rdata : length (c .before .before .before .before .before .before .before .before .before .before .before .args .t4 .rdata) ≡ 35 = search needs in
-    simp length-take (omega (arith, d .data-size .ensures, field-size-most (d .before .rtype-of .result)))
+    simp length-take (omega (arith, d .field-size .ensures, field-size-most (d .before .rtype-of .result)))
 
 write-in-requires : tie.Need-write-in-requires
 write-in-requires c κs =
     let d = c .before .before .before in
     let a = c .before .before .before .before .before .before .before .before .before .before .before in
-    let w = writable _ _ _ (a .args .t4) (a .pre .2) _ _ (d .before .rtype-of .ensures) (d .data-size .ensures) in
+    let w = writable _ _ _ (a .args .t4) (a .pre .2) _ _ (d .before .rtype-of .ensures) (d .field-size .ensures) in
     (a .pre .0, a .pre .1, w .low, w .short, w .size, w .at)
 
 same-length : tie.Need-same-length
@@ -46,7 +47,7 @@ returns c = λ r h t is.
     let w = c .before .before in
     let d = c .before .before .before .before .before .before in
     let a = c .before .before .before .before .before .before .before .before .before .before .before .before .before .before in
-    w .write-in .ensures t is ∙ ap (tableBytes 64) (written-stored (a .args .t4) r h _ _ (d .before .rtype-of .ensures) (d .data-size .ensures) t)
+    w .write-in .ensures t is ∙ ap (tableBytes mostNames) (written-stored (a .args .t4) r h _ _ (d .before .rtype-of .ensures) (d .field-size .ensures) t)
 
 pub store-spec : {M : Type 1} → statement M
 store-spec =
@@ -55,7 +56,7 @@ store-spec =
     cast-len
     slice-aggregate-bytes
     rtype-of-requires
-    data-size-requires
+    field-size-requires
     slice-aggregate-write-in
     slice-aggregate-write-in-2
     write-in-requires

@@ -1,7 +1,7 @@
 use mathlib.Core.Path.{refl}
 use native.Mathlib.Omega.{arith}
 use borrow.Author.Needs.{needs}
-use Rattle.table_load.proofs.FillLaws.{filled-sound, next-of, place-within, next-holds, next-storable, filled-more, filled-still, no-fault}
+use Rattle.table_load.proofs.FillLaws.{filled-sound, next-on, next-of, place-within, next-holds, next-storable, filled-more, filled-still, no-fault}
 use Rattle.table_load.proofs.store_next.Statement.{statement}
 use Rattle.table_load.proofs.store_next.Tie as tie
 
@@ -60,13 +60,13 @@ returns c =
     let a = c .before .before .before .before .before .before .before .before .before .before .before .before .before in
     let e = c .before .before .before .before .before .before .before .before .before .read-entry in
     let n = next-of _ _ _ _ (a .pre .2) (e .result) (e .ensures) (a .pre .0) (c .before .before .before .before .before .before .enum-told .given .1) in
-    (filled-more _ _ _ _ (a .pre .2) (e .result) (e .ensures) (a .pre .0) n _ refl _ (c .before .before .before .store .ensures (n .head) (next-holds _ _ _ _ (a .pre .2) (e .result) (e .ensures) (a .pre .0) n)) _ (c .used-with .ensures), e .ensures .on (a .pre .0))
+    (filled-more _ _ _ _ (a .pre .2) (e .result) (e .ensures) (a .pre .0) n _ refl _ (c .before .before .before .store .ensures (n .head) (next-holds _ _ _ _ (a .pre .2) (e .result) (e .ensures) (a .pre .0) n)) _ (c .used-with .ensures), next-on _ _ _ _ (a .pre .2) (e .result) (e .ensures) (a .pre .0))
 
 returns-2 : tie.Need-returns-2
 returns-2 c =
     let a = c .before .before .before .before .before .before .before in
     let e = c .before .before .before .read-entry in
-    (filled-still _ _ _ _ (a .pre .2) (e .result) (e .ensures) (a .pre .0) (c .enum-told2 .given .1), e .ensures .on (a .pre .0))
+    (filled-still _ _ _ _ (a .pre .2) (e .result) (e .ensures) (a .pre .0) (c .enum-told2 .given .1), next-on _ _ _ _ (a .pre .2) (e .result) (e .ensures) (a .pre .0))
 
 returns-3 : tie.Need-returns-3
 returns-3 c =
