@@ -9,16 +9,12 @@ a line above all that it uses. In one that is marked `way` a line has a crate, a
 import re
 import sys
 
+from crates_list import crates_list
+
 
 def crates_of(path):
     """Each crate, with all that it uses, directly or through others. What the list uses and does not list is the toolchain's."""
-    direct = {}
-    with open(path, encoding="utf-8") as file:
-        for line in file:
-            line = line.split("#")[0]
-            if ":" in line:
-                name, below = line.split(":")
-                direct[name.strip()] = set(below.split())
+    direct = crates_list(path)
     uses = {}
 
     def below(name):

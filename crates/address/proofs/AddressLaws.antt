@@ -1,6 +1,6 @@
 -- The forms of A and AAAA, as the reader of numbers has them, are those of specs/Address.antt. Assumes nothing.
 use Prim.Native.Nat.{ℕ, _-_, _*_, _^_, _%_, _≤_, _<_}
-use mathlib.Core.Bool.{true, false, true≢false}
+use mathlib.Core.Bool.{true≢false}
 use mathlib.Core.Path.{_≡_, refl, sym, ap, _∙_, subst}
 use mathlib.Core.List.{List, [], _∷_, _++_, map, append-nil}
 use native.Mathlib.Nat.{one-mul, pow-le-pow-right}
@@ -13,17 +13,11 @@ use Rattle.base.proofs.Fill.{length-tabulate, getD-tabulate}
 use Rattle.base.proofs.Lists.{every-at, pairwise-by, pairwise-second}
 use Rattle.text.specs.Digits.{digitValue, value, separated, decimal}
 use Rattle.address.specs.Address.{SpellsA, Group, SpellsAAAA, writtenA}
+use Rattle.address.specs.Forms.{octets, groups}
 use Rattle.text.specs.Field.{Field, Fields, Usable, Numbered}
-use Rattle.text.specs.declared.field.Form.{Form}
 use Rattle.text.specs.declared.field.Numbers.{Numbers}
 use Rattle.text.proofs.DigitLaws.{length-decimal, decimal-number, decimal-shortest, decimal-only, below-power}
 use Rattle.text.proofs.FieldLaws.{fields-one}
-
-abbrev pub octets : Form
-octets = record { base = 10; separator = 46; most = 3; greatest = 255; «leading_zeros» = false; count = 4 }
-
-abbrev pub groups : Form
-groups = record { base = 16; separator = 58; most = 4; greatest = 65535; «leading_zeros» = true; count = 8 }
 
 pub octets-usable : Usable octets
 unfolding digitValue

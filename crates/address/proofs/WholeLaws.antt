@@ -14,7 +14,7 @@ use Rattle.base.proofs.Fill.{length-tabulate, getD-tabulate}
 use Rattle.base.proofs.Lists.{every-at}
 use Rattle.base.proofs.Fill.{looked-up}
 use Rattle.text.specs.Digits.{digitValue, value, separated}
-use Rattle.text.specs.Reading.{Answers, none-read}
+use Rattle.text.specs.Reading.{Decodes, none-read}
 use Rattle.text.proofs.PartLaws.{total, total-separated}
 use Rattle.address.specs.Address.{Group, SpellsAAAA}
 
@@ -218,5 +218,5 @@ module _ (w bs : List ℕ) (long : length w ≡ 39) (s : SpellsAAAA w bs) where
 
 -- ---- the answer that there is none
 
-pub none-spelled : (w : List ℕ) {found : Bool} {bytes : List ℕ} → (found ≡ false) × (bytes ≡ replicate 16 0) → ((bs : List ℕ) → SpellsAAAA w bs → ⊥) → Answers (SpellsAAAA w) found bytes
+pub none-spelled : (w : List ℕ) {found : Bool} {bytes : List ℕ} → (found ≡ false) × (bytes ≡ replicate 16 0) → ((bs : List ℕ) → SpellsAAAA w bs → ⊥) → Decodes (SpellsAAAA w) found bytes
 none-spelled w is h = none-read (is .0) h (is .1 ∙ sym (ap (λ (l : List ℕ). replicate (length l) 0) (is .1)))

@@ -1,5 +1,6 @@
 -- How the data of an A and of an AAAA record are spelled. Document 01, "The listing's grammar".
 use Prim.Native.Nat.{ℕ, _/_, _%_, _≤_, _<_}
+use Prim.Native.Char.{code}
 use mathlib.Core.Path.{_≡_}
 use mathlib.Core.List.{List, [], _∷_, map}
 use lib.ListN.{length}
@@ -7,9 +8,9 @@ use Rattle.base.specs.Bytes.{inBytes}
 use Rattle.base.specs.Logic.{Every, Pairwise}
 use Rattle.text.specs.Digits.{Number, separated, decimal, hexDigit}
 
--- how an A record's data are written: a decimal number for each byte, with dots (46) between them
+-- how an A record's data are written: a decimal number for each byte, with dots between them
 unfoldable pub writtenA : List ℕ → List ℕ
-writtenA bs = separated 46 (map (decimal 3) bs)
+writtenA bs = separated (code ".") (map (decimal 3) bs)
 
 -- the word w spells the four bytes bs: it is what is written for them, so that no number has a leading zero
 pub record SpellsA (w bs : List ℕ) : Type 0 where
@@ -22,12 +23,11 @@ pub record Group (p : List ℕ) (n : ℕ) : Type 0 where
   pub hexadecimal : Number 16 p n
   pub short : length p ≤ 4
 
--- the word w spells the sixteen bytes bs: eight groups with colons (58) between them, two bytes
--- each, the high byte first
+-- the word w spells the sixteen bytes bs: eight groups with colons between them, two bytes each, the high byte first
 pub record SpellsAAAA (w bs : List ℕ) : Type 0 where
   pub parts : List (List ℕ)
   pub numbers : List ℕ
-  pub word : w ≡ separated 58 parts
+  pub word : w ≡ separated (code ":") parts
   pub groups : Pairwise Group parts numbers
   pub eight : length numbers ≡ 8
   pub bytes : bs ≡ inBytes 2 numbers
@@ -42,4 +42,4 @@ fourDigits (a ∷ []) = []
 fourDigits (a ∷ b ∷ bs) = fourOf a b ∷ fourDigits bs
 
 unfoldable pub writtenAAAA : List ℕ → List ℕ
-writtenAAAA bs = separated 58 (fourDigits bs)
+writtenAAAA bs = separated (code ":") (fourDigits bs)

@@ -13,7 +13,7 @@ ghost use Rattle.base.specs.Bytes.{bigEndian, overlay, tabulate};
 ghost use Rattle.base.specs.Logic.{Decides};
 ghost use Rattle.text.specs.Digits.{digitValue};
 ghost use Rattle.address.specs.Address as spec;
-ghost use Rattle.text.specs.Reading.{Answers};
+ghost use Rattle.text.specs.Reading.{Decodes};
 
 // The four bytes of an A record that was read, or none: then they are zero.
 pub struct ReadA {
@@ -48,7 +48,7 @@ const GROUPS: Form = Form {
 };
 
 pub fn read_a(word: &[u8]) -> ReadA
-    ensures { λ r. ⌜ Answers (spec.SpellsA (now (word .entry))) (r .found) (r .bytes) ⌝ }
+    ensures { λ r. ⌜ Decodes (spec.SpellsA (now (word .entry))) (r .found) (r .bytes) ⌝ }
 {
     let numbers = read_fields(word, OCTETS);
     let mut bytes = [0u8; 4];
@@ -131,7 +131,7 @@ fn has_colons(word: &[u8]) -> bool
 // and a table gives their values with no branch on what they are.
 fn read_whole(word: &[u8]) -> ReadAaaa
     requires { ⌜ length (now word) ≡ 39 ⌝ }
-    ensures { λ r. ⌜ Answers (spec.SpellsAAAA (now (word .entry))) (r .found) (r .bytes) ⌝ }
+    ensures { λ r. ⌜ Decodes (spec.SpellsAAAA (now (word .entry))) (r .found) (r .bytes) ⌝ }
 {
     if !has_colons(word) {
         return no_aaaa();
@@ -159,7 +159,7 @@ fn read_whole(word: &[u8]) -> ReadAaaa
 }
 
 pub fn read_aaaa(word: &[u8]) -> ReadAaaa
-    ensures { λ r. ⌜ Answers (spec.SpellsAAAA (now (word .entry))) (r .found) (r .bytes) ⌝ }
+    ensures { λ r. ⌜ Decodes (spec.SpellsAAAA (now (word .entry))) (r .found) (r .bytes) ⌝ }
 {
     if word.len() == 39 {
         return read_whole(word);

@@ -1,5 +1,6 @@
 -- Laws of base64: digits and their values, groups, and the shape of 35 bytes' text. Assumes nothing.
 use Prim.Native.Nat.{ℕ, suc, _+_, _-_, _*_, _/_, _%_, _≤_, _<_}
+use Prim.Native.Char.{code}
 use mathlib.Core.Bool.{Bool, true, cond, _&&_}
 use mathlib.Core.Path.{_≡_, refl, sym, ap, subst, _∙_}
 use mathlib.Core.List.{List, [], _∷_, _++_, head-eq-of-cons-eq, tail-eq-of-cons-eq}
@@ -14,7 +15,7 @@ use Rattle.base.specs.Logic.{Every}
 use Rattle.base.proofs.Bytes.{overlay-append}
 use Rattle.base.proofs.Tests.{by-ltb, below, at-each, over}
 use Rattle.dhcid_text.specs.Dhcid.{digit64, base64}
-use Rattle.dhcid_text.specs.DhcidReading.{value64, group}
+use Rattle.dhcid_text.specs.Base64.{value64, group}
 
 -- ---- digits and their values
 
@@ -38,16 +39,16 @@ unfolding below written-back digit64 value64
 all-written-back = refl
 
 -- a byte's value, from the five tests
-pub value-of : (b : ℕ) {u l d p s : Bool} → (leb 65 b && leb b 90) ≡ u → (leb 97 b && leb b 122) ≡ l → (leb 48 b && leb b 57) ≡ d → eqb b 43 ≡ p → eqb b 47 ≡ s
-    → value64 b ≡ cond u (b - 65) (cond l (b - 71) (cond d (b + 4) (cond p 62 (cond s 63 64))))
+pub value-of : (b : ℕ) {u l d p s : Bool} → (leb (code "A") b && leb b (code "Z")) ≡ u → (leb (code "a") b && leb b (code "z")) ≡ l → (leb (code "0") b && leb b (code "9")) ≡ d
+    → eqb b (code "+") ≡ p → eqb b (code "/") ≡ s → value64 b ≡ cond u (b - code "A") (cond l (b - code "a" + 26) (cond d (b - code "0" + 52) (cond p 62 (cond s 63 64))))
 unfolding value64
-value-of b eu el ed ep es = λ i. cond (eu i) (b - 65) (cond (el i) (b - 71) (cond (ed i) (b + 4) (cond (ep i) 62 (cond (es i) 63 64))))
+value-of b eu el ed ep es = λ i. cond (eu i) (b - code "A") (cond (el i) (b - code "a" + 26) (cond (ed i) (b - code "0" + 52) (cond (ep i) 62 (cond (es i) 63 64))))
 
 -- a digit, from the four tests
 pub digit-of : (v : ℕ) {u l d p : Bool} → ltb v 26 ≡ u → ltb v 52 ≡ l → ltb v 62 ≡ d → eqb v 62 ≡ p
-    → digit64 v ≡ cond u (v + 65) (cond l (v + 71) (cond d (v - 4) (cond p 43 47)))
+    → digit64 v ≡ cond u (code "A" + v) (cond l (code "a" + (v - 26)) (cond d (code "0" + (v - 52)) (cond p (code "+") (code "/"))))
 unfolding digit64
-digit-of v eu el ed ep = λ i. cond (eu i) (v + 65) (cond (el i) (v + 71) (cond (ed i) (v - 4) (cond (ep i) 43 47)))
+digit-of v eu el ed ep = λ i. cond (eu i) (code "A" + v) (cond (el i) (code "a" + (v - 26)) (cond (ed i) (code "0" + (v - 52)) (cond (ep i) (code "+") (code "/"))))
 
 no-value : (c : ℕ) → 128 ≤ c → value64 c ≡ 64
 no-value c h =

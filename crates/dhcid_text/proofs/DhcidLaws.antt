@@ -5,9 +5,11 @@ use mathlib.Core.List.{List, [], _∷_, _++_, append-assoc, append-nil}
 use native.Mathlib.Omega.{arith}
 use lib.ListN.{length, getD, set, replicate, length-append, List·getD-append, take, drop}
 use lib.Seq.{append-snoc, set-append-seam, getD-append-seam, getD-append-add, getD-at, drop-cons, take-add}
+use Rattle.base.specs.Bytes.{zeroFilled}
 use Rattle.base.specs.Logic.{Every}
 use Rattle.dhcid_text.specs.Dhcid.{digit64, base64}
-use Rattle.dhcid_text.specs.DhcidReading.{value64, zeroFilled, stateOf, Quantum, Begun64, Done64, Refused64, Text64}
+use Rattle.dhcid_text.specs.Base64.{value64}
+use Rattle.dhcid_text.specs.DhcidReading.{stateOf, Quantum, Begun64, Done64, Refused64, Text64}
 use Rattle.dhcid_text.specs.declared.DhcidWords.{DhcidWords}
 use Rattle.dhcid_text.proofs.HexLaws.{take-one}
 use Rattle.dhcid_text.proofs.Base64Laws.{value-digit, digit-value, same-digit, base64-on, length-whole, length-base64, Shape, shape}

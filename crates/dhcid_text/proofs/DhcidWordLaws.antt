@@ -7,14 +7,16 @@ use mathlib.Core.List.{List, [], _∷_, _++_, append-assoc, append-nil, nil≢co
 use native.Mathlib.Omega.{arith}
 use lib.ListN.{replicate, length, set, length-append}
 use lib.Seq.{append-snoc}
+use Rattle.base.specs.Bytes.{ascii}
 use Rattle.base.specs.Dhcid.{wellFormed}
 use Rattle.base.specs.Logic.{Every, Pairwise}
 use Rattle.base.proofs.DhcidLaws.{dhcid-length}
 use Rattle.base.proofs.Lists.{every-append, every-middle, pairwise-on}
 use Rattle.text.specs.Digits.{digitValue}
-use Rattle.dhcid_text.specs.Dhcid.{base64, joined, HexByte, Generic, SpellsDhcid}
-use Rattle.text.specs.Reading.{Answers, none-read}
-use Rattle.dhcid_text.specs.DhcidReading.{value64, Fresh, Quantum, Refused64, Text64, Begun16, Refused16, Text16, marker, thirtyFive, After, noDhcid}
+use Rattle.dhcid_text.specs.Dhcid.{base64, joined, HexByte, Generic, SpellsDhcid, marker, thirtyFive}
+use Rattle.text.specs.Reading.{Decodes, none-read}
+use Rattle.dhcid_text.specs.Base64.{value64}
+use Rattle.dhcid_text.specs.DhcidReading.{Fresh, Quantum, Refused64, Text64, Begun16, Refused16, Text16, After, noDhcid}
 use Rattle.dhcid_text.specs.declared.DhcidWords.{DhcidWords}
 use Rattle.dhcid_text.specs.declared.ReadDhcid.{ReadDhcid}
 use Rattle.dhcid_text.proofs.Base64Laws.{same-bytes, length-base64}
@@ -130,7 +132,7 @@ fresh-digits s h =
 
 -- base64 begins with no backslash
 no-base64 : (vs : List (List ℕ)) (bs : List ℕ) → Every (λ b. b < 256) bs → length bs ≡ 35 → joined (marker ∷ vs) ≡ base64 bs → ⊥
-unfolding joined value64
+unfolding ascii joined value64
 no-base64 vs bs small long e = let h : value64 92 < 64 = next-digit bs small long [] (35 ∷ joined vs) 92 e (omega arith) in omega arith
 
 module _ (ws vs : List (List ℕ)) (bs : List ℕ) (sp : SpellsDhcid ws bs) where
@@ -253,7 +255,7 @@ module _ (ws : List (List ℕ)) (w : List ℕ) (s r : DhcidWords) where
 
 -- ---- the answer
 
-pub not-found : (ws : List (List ℕ)) (r : ReadDhcid) → r ≡ noDhcid → ((bs : List ℕ) → SpellsDhcid ws bs → ⊥) → Answers (SpellsDhcid ws) (r .found) (r .bytes)
+pub not-found : (ws : List (List ℕ)) (r : ReadDhcid) → r ≡ noDhcid → ((bs : List ℕ) → SpellsDhcid ws bs → ⊥) → Decodes (SpellsDhcid ws) (r .found) (r .bytes)
 unfolding noDhcid
 not-found ws r e none =
     let zeros : r .bytes ≡ replicate 35 0 = ap (λ (x : ReadDhcid). x .bytes) e in

@@ -1,25 +1,31 @@
 -- How the data of a DHCID record are spelled. Document 01, "DHCID bytes and their text"; RFC 4648, 4; RFC 3597, 5.
 use Prim.Native.Nat.{ℕ, _+_, _-_, _*_, _/_, _%_, _<_}
+use Prim.Native.Char.{code}
 use mathlib.Core.Bool.{true, cond}
 use mathlib.Core.Path.{_≡_}
 use mathlib.Core.Logic.{_⊎_}
 use mathlib.Core.List.{List, [], _∷_, _++_}
 use lib.Dec.{eqb, ltb}
 use lib.ListN.{length}
+use Rattle.base.specs.Bytes.{ascii}
 use Rattle.base.specs.Dhcid.{wellFormed}
 use Rattle.base.specs.Logic.{Every, Pairwise}
 use Rattle.text.specs.Digits.{Number}
 
 -- RFC 4648, table 1: the digit of a number below 64: A to Z, a to z, 0 to 9, + and /
 unfoldable pub digit64 : ℕ → ℕ
-digit64 v = cond (ltb v 26) (v + 65) (cond (ltb v 52) (v + 71) (cond (ltb v 62) (v - 4) (cond (eqb v 62) 43 47)))
+digit64 v =
+    cond (ltb v 26) (code "A" + v)
+    (cond (ltb v 52) (code "a" + (v - 26))
+    (cond (ltb v 62) (code "0" + (v - 52))
+    (cond (eqb v 62) (code "+") (code "/"))))
 
 -- RFC 4648, 4: each three bytes are four digits of six bits; a last group of one or two bytes is two or three digits, with zero bits after the bytes',
--- and is filled up with = (61)
+-- and is filled up with =
 unfoldable pub base64 : List ℕ → List ℕ
 base64 [] = []
-base64 (a ∷ []) = digit64 (a / 4) ∷ digit64 (a % 4 * 16) ∷ 61 ∷ 61 ∷ []
-base64 (a ∷ b ∷ []) = digit64 (a / 4) ∷ digit64 (a % 4 * 16 + b / 16) ∷ digit64 (b % 16 * 4) ∷ 61 ∷ []
+base64 (a ∷ []) = digit64 (a / 4) ∷ digit64 (a % 4 * 16) ∷ code "=" ∷ code "=" ∷ []
+base64 (a ∷ b ∷ []) = digit64 (a / 4) ∷ digit64 (a % 4 * 16 + b / 16) ∷ digit64 (b % 16 * 4) ∷ code "=" ∷ []
 base64 (a ∷ b ∷ c ∷ bs) = digit64 (a / 4) ∷ digit64 (a % 4 * 16 + b / 16) ∷ digit64 (b % 16 * 4 + c / 64) ∷ digit64 (c % 64) ∷ base64 bs
 
 -- words joined
@@ -32,10 +38,18 @@ pub record HexByte (p : List ℕ) (b : ℕ) : Type 0 where
   pub hexadecimal : Number 16 p b
   pub two : length p ≡ 2
 
--- RFC 3597, 5, for 35 bytes: the words \# (92 35) and 35 (51 53), and words of an even number of hexadecimal digits each, a byte for each two
+-- the word that a generic form begins with
+abbrev pub marker : List ℕ
+marker = ascii "\\#"
+
+-- the word that says that 35 bytes follow
+abbrev pub thirtyFive : List ℕ
+thirtyFive = ascii "35"
+
+-- RFC 3597, 5, for 35 bytes: these two words, and words of an even number of hexadecimal digits each, a byte for each two
 pub record Generic (ws : List (List ℕ)) (bs : List ℕ) : Type 0 where
   pub digits : List (List ℕ)
-  pub words : ws ≡ (92 ∷ 35 ∷ []) ∷ (51 ∷ 53 ∷ []) ∷ digits
+  pub words : ws ≡ marker ∷ thirtyFive ∷ digits
   pub even : Every (λ w. length w % 2 ≡ 0) digits
   pub pairs : List (List ℕ)
   pub all : joined digits ≡ joined pairs

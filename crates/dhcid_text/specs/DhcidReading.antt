@@ -1,43 +1,29 @@
--- What the functions that read a DHCID's text promise, word by word. Document 01, "DHCID bytes and their text".
+-- What the code keeps while it reads the words of a DHCID, and what its functions promise one another. A reader of what words spell need not know it: that is specs/Dhcid.antt. Nor need a
+-- caller: `begin`, `word` and `finish` speak of the state after some words (`After`), whatever that is.
+-- An example, the words AAEB and Zg==, which are the base64 of the bytes 0 1 1 102. After AAE the state is of form 1, its count is 3, and the digits 0 0 4 are `three` of a `Quantum`: the bytes 0 1,
+-- and the bits 0 that the next byte begins with. After AAEB the group 0 1 1 is whole, the count is 4, and nothing of the next one was read (`none`). After Z, the digit 25, 25 is pending (`one`); after Zg
+-- the bytes are 0 1 1 102, and 0 is pending (`two`). The = that follows is refused (`Refused64`, form 4): the base64 of 35 bytes has one = alone, its 48th character.
 use Prim.Native.Nat.{ℕ, _+_, _-_, _*_, _/_, _%_, _≤_, _<_}
-use mathlib.Core.Bool.{false, cond, _&&_}
+use mathlib.Core.Bool.{false}
 use mathlib.Core.Path.{_≡_}
 use mathlib.Core.Logic.{_⊎_}
 use mathlib.Core.List.{List, [], _∷_, _++_}
-use lib.Dec.{leb, eqb}
 use lib.ListN.{length, replicate, take, drop}
+use Rattle.base.specs.Bytes.{zeroFilled}
 use Rattle.base.specs.Logic.{Every, Pairwise}
-use Rattle.dhcid_text.specs.Dhcid.{digit64, base64, joined, HexByte, SpellsDhcid}
+use Rattle.dhcid_text.specs.Dhcid.{digit64, base64, joined, HexByte, marker, thirtyFive, SpellsDhcid}
+use Rattle.dhcid_text.specs.Base64.{value64}
 use Rattle.dhcid_text.specs.declared.DhcidWords.{DhcidWords}
 use Rattle.dhcid_text.specs.declared.ReadDhcid.{ReadDhcid}
 use Rattle.dhcid_text.specs.declared.Sextets.{Sextets}
 
--- ---- what the reader answers
+-- ---- the answer, and a state by its parts
 
 -- the answer that says that there is no DHCID
 unfoldable pub noDhcid : ReadDhcid
 noDhcid = record { found = false; bytes = replicate 35 0 }
 
--- ---- notions of the code
-
--- the value of a base64 digit; 64, which is no digit's, for any other byte
-unfoldable pub value64 : ℕ → ℕ
-value64 b =
-    cond (leb 65 b && leb b 90) (b - 65)
-    (cond (leb 97 b && leb b 122) (b - 71)
-    (cond (leb 48 b && leb b 57) (b + 4)
-    (cond (eqb b 43) 62
-    (cond (eqb b 47) 63 64))))
-
--- a group of base64 as it is written: the digits of two bytes and of the first two bits of a third, and the fourth character
-unfoldable pub group : ℕ → ℕ → ℕ → ℕ → List ℕ
-group a b c fourth = digit64 (a / 4) ∷ digit64 (a % 4 * 16 + b / 16) ∷ digit64 (b % 16 * 4 + c / 64) ∷ fourth ∷ []
-
--- the 35 bytes that hold a record's data: the data, and zeros after them; of a state, those that were read so far
-unfoldable pub zeroFilled : List ℕ → List ℕ
-zeroFilled bs = bs ++ replicate (35 - length bs) 0
-
--- a state by its parts; and by those that base64 keeps apart from its bytes
+-- by all its parts; and by those that base64 keeps apart from its bytes
 abbrev pub stateOf : ℕ → ℕ → ℕ → List ℕ → DhcidWords
 stateOf form count pending bytes = record { form = form; count = count; pending = pending; bytes = bytes }
 
@@ -101,7 +87,7 @@ pub data Text64 (cs : List ℕ) (s : DhcidWords) : Type 0 where
 pub record Quanta64 (count : ℕ) (w : List ℕ) (r : ℕ) : Type 0 where
   pub whole : r % 4 ≡ 0
   pub within : r ≤ length w
-  pub place : (r ≡ 0) ⊎ ((count % 4 ≡ 0) × (count + r ≤ 44))
+  pub fits : (r ≡ 0) ⊎ ((count % 4 ≡ 0) × (count + r ≤ 44))
   pub digits : Every (λ c. value64 c < 64) (take r w)
   pub most : count % 4 ≡ 0 → count + r < 44 → r + 4 ≤ length w → Every (λ c. value64 c < 64) (take 4 (drop r w)) → ⊥
 
@@ -130,14 +116,6 @@ pub data Text16 (ds : List ℕ) (s : DhcidWords) : Type 0 where
   refused : Refused16 ds s → Text16 ds s
 
 -- ---- words
-
--- the word that a generic form begins with: \#
-abbrev pub marker : List ℕ
-marker = 92 ∷ 35 ∷ []
-
--- the word that says that 35 bytes follow
-abbrev pub thirtyFive : List ℕ
-thirtyFive = 51 ∷ 53 ∷ []
 
 -- s is the state after the words ws. Its form says which of these they are: none yet; base64, since the first is no marker; the marker; the
 -- marker, the length, and words of an even number of digits each; or words that no words after them make a DHCID's

@@ -1,2 +1,3 @@
 pub mod Dhcid
+pub mod Base64
 pub mod DhcidReading

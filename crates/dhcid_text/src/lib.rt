@@ -8,10 +8,11 @@ ghost use Prim.Native.Nat.{ℕ, _+_, _%_, _≤_, _<_};
 ghost use lib.ListN.{length, take};
 ghost use Rattle.base.specs.Bytes.{overlay, tabulate};
 ghost use Rattle.base.specs.Logic.{Decides};
+ghost use Rattle.dhcid_text.specs.Base64 as base64;
 ghost use Rattle.dhcid_text.specs.Dhcid as spec;
 ghost use Rattle.dhcid_text.specs.DhcidReading as reading;
 ghost use Rattle.dhcid_text.specs.DhcidReading.{After};
-ghost use Rattle.text.specs.Reading.{Answers};
+ghost use Rattle.text.specs.Reading.{Decodes};
 
 // A DHCID that was read, or none: then its bytes are zero.
 pub struct ReadDhcid {
@@ -41,7 +42,7 @@ const DIGITS: u8 = 3;
 const REFUSED: u8 = 4;
 
 // Fills up the last group of base64.
-const PAD: u8 = 61;
+const PAD: u8 = b'=';
 
 // The values of all bytes as base64 digits, sixteen in a line: 0 to 63 (\x3f), and 64 (\x40) for a byte that is no digit.
 const VALUES64: [u8; 256] = *b"\
@@ -64,8 +65,8 @@ const VALUES64: [u8; 256] = *b"\
 
 // The value of a base64 digit; 64 for any other byte. The table is lent: wherever the constant is named, it is laid on the stack anew.
 fn value64(values: &[u8; 256], b: u8) -> u8
-    requires { ⌜ now values ≡ tabulate reading.value64 256 ⌝ }
-    ensures { λ r. ⌜ r ≡ reading.value64 b ⌝ }
+    requires { ⌜ now values ≡ tabulate base64.value64 256 ⌝ }
+    ensures { λ r. ⌜ r ≡ base64.value64 b ⌝ }
 {
     values[b as usize]
 }
@@ -76,22 +77,22 @@ fn digit64(v: u8) -> u8
     ensures { λ r. ⌜ r ≡ spec.digit64 v ⌝ }
 {
     if v < 26 {
-        v + 65
+        b'A' + v
     } else if v < 52 {
-        v + 71
+        b'a' + (v - 26)
     } else if v < 62 {
-        v - 4
+        b'0' + (v - 52)
     } else if v == 62 {
-        43
+        b'+'
     } else {
-        47
+        b'/'
     }
 }
 
 // Writes a group: the digits of two bytes and of the first two bits of a third, and the fourth character.
 fn put_group(to: &mut [u8], at: usize, a: u8, b: u8, c: u8, fourth: u8)
     requires { ⌜ at + 4 ≤ length (now to) ⌝ }
-    ensures { λ _. ⌜ now (to .exit) ≡ overlay (now (to .entry)) at (reading.group a b c fourth) ⌝ }
+    ensures { λ _. ⌜ now (to .exit) ≡ overlay (now (to .entry)) at (base64.group a b c fourth) ⌝ }
 {
     to[at] = digit64(a / 4);
     to[at + 1] = digit64(a % 4 * 16 + b / 16);
@@ -186,7 +187,7 @@ fn last_character(s: Sextets, b: u8) -> Sextets
 
 // After one character of base64.
 fn base64_character(values: &[u8; 256], bytes: &mut [u8], s: Sextets, b: u8) -> Sextets
-    requires { ⌜ (now values ≡ tabulate reading.value64 256) × (length (now bytes) ≡ 35) ⌝ }
+    requires { ⌜ (now values ≡ tabulate base64.value64 256) × (length (now bytes) ≡ 35) ⌝ }
     ensures { λ r. ⌜ ((cs : List ℕ) → reading.Text64 cs (reading.withBytes s (now (bytes .entry))) → reading.Text64 (cs ++ b ∷ []) (reading.withBytes r (now (bytes .exit)))) ⌝ }
 {
     let count = s.count;
@@ -231,7 +232,7 @@ fn put_quantum(bytes: &mut [u8], count: u8, a: u8, b: u8, c: u8, d: u8)
 
 // Takes the whole groups of digits that a word begins with, up to the last group of 35 bytes: how many characters they are.
 fn read_quanta(values: &[u8; 256], bytes: &mut [u8], count: u8, word: &[u8]) -> u8
-    requires { ⌜ (now values ≡ tabulate reading.value64 256) × (length (now bytes) ≡ 35) ⌝ }
+    requires { ⌜ (now values ≡ tabulate base64.value64 256) × (length (now bytes) ≡ 35) ⌝ }
     ensures { λ r. ⌜ reading.Quanta64 count (now (word .entry)) r × ((f p : ℕ) (cs : List ℕ) → reading.Text64 cs (reading.stateOf f count p (now (bytes .entry))) → reading.Text64 (cs ++ take r (now (word .entry))) (reading.stateOf f (count + r) p (now (bytes .exit)))) ⌝ }
 {
     if count % 4 != 0 {
@@ -364,7 +365,7 @@ fn no_dhcid() -> ReadDhcid
 fn first_word(word: &[u8]) -> DhcidWords
     ensures { λ r. ⌜ After (now (word .entry) ∷ []) r ⌝ }
 {
-    if is_pair(word, 92, 35) {
+    if is_pair(word, b'\\', b'#') {
         return fresh(MARKED);
     }
     base64_word(fresh(BASE64), word)
@@ -372,9 +373,9 @@ fn first_word(word: &[u8]) -> DhcidWords
 
 // The state after the word that follows the marker, and must be 35: as many bytes follow.
 fn length_word(word: &[u8]) -> DhcidWords
-    ensures { λ r. ⌜ After (reading.marker ∷ now (word .entry) ∷ []) r ⌝ }
+    ensures { λ r. ⌜ After (spec.marker ∷ now (word .entry) ∷ []) r ⌝ }
 {
-    if is_pair(word, 51, 53) {
+    if is_pair(word, b'3', b'5') {
         return fresh(DIGITS);
     }
     fresh(REFUSED)
@@ -415,7 +416,7 @@ impl DhcidWords {
 
     // The DHCID that the words spell, if they spell one.
     pub fn finish(self) -> ReadDhcid
-        ensures { λ r. ⌜ ((ws : List (List ℕ)) → After ws self → Answers (spec.SpellsDhcid ws) (r .found) (r .bytes)) ⌝ }
+        ensures { λ r. ⌜ ((ws : List (List ℕ)) → After ws self → Decodes (spec.SpellsDhcid ws) (r .found) (r .bytes)) ⌝ }
     {
         let bytes = self.bytes;
         if !is_complete(self.form, self.count) {

@@ -1,4 +1,4 @@
--- The functions of proofs/Content.antt find just what the definitions say of an entry's words. Assumes nothing.
+-- The functions of specs/Content.antt find just what the definitions say of an entry's words. Assumes nothing.
 use Prim.Native.Nat.{ℕ}
 use mathlib.Core.Bool.{Bool, true, false, cond}
 use mathlib.Core.Path.{_≡_, refl, ap, subst, _∙_}
@@ -15,10 +15,11 @@ use Rattle.grammar.specs.Listing.{isWordByte, begins, outside, Words, Re
 use Rattle.grammar.specs.Faults.{WordFault}
 use Rattle.grammar.proofs.Deciding.{Reads, not-found}
 use Rattle.grammar.proofs.ScanLaws.{one-words}
-use Rattle.grammar.proofs.OwnerReader.{ownerOf, owner-reads}
-use Rattle.grammar.proofs.AddressReader.{a-reads, aaaa-reads}
-use Rattle.grammar.proofs.DhcidReader.{dhcid-reads}
-use Rattle.grammar.proofs.Content.{Content, nothing, one, fault, isWord, typeOf, Headed, withRest, typed, headOf, rdataOf, byRdata, byHead, byOwner, contentOf}
+use Rattle.grammar.specs.OwnerReader.{ownerOf}
+use Rattle.grammar.proofs.OwnerReaderLaws.{owner-reads}
+use Rattle.grammar.proofs.AddressReaderLaws.{a-reads, aaaa-reads}
+use Rattle.grammar.proofs.DhcidReaderLaws.{dhcid-reads}
+use Rattle.grammar.specs.Content.{Content, nothing, one, fault, isWord, typeOf, Headed, withRest, typed, headOf, rdataOf, byRdata, byHead, byOwner, contentOf}
 
 -- ---- the type, and what may stand before it
 
@@ -159,14 +160,14 @@ rdata-reads k = record { finds = rdata-finds k; is = rdata-is k }
 
 -- ---- an entry: what the definitions give, the function finds
 
-record-content : (e : List ℕ) (r : ResourceRecord) (h : RecordEntry e r) → contentOf (begins isWordByte e) (h .owner ∷ h .others) ≡ one r
+record-content : (e : List ℕ) (r : ResourceRecord) (h : RecordEntry e r) → contentOf (begins isWordByte e) (h .owner ∷ h .afterOwner) ≡ one r
 unfolding contentOf
 record-content e r h =
     rw (
       h .first,
       owner-reads .finds (h .owner) (r .owner) (h .name),
-      head-reads .finds (h .others) (record { rtype = r .rtype; rest = h .rest }) (h .head),
-      rdata-reads (r .rtype) .finds (h .rest) (r .rdata) (h .rdata),
+      head-reads .finds (h .afterOwner) (record { rtype = r .rtype; rest = h .dataWords }) (h .head),
+      rdata-reads (r .rtype) .finds (h .dataWords) (r .rdata) (h .rdata),
     )
 
 module _ (e o : List ℕ) (ws : List (List ℕ)) where
@@ -217,7 +218,7 @@ module _ (e o : List ℕ) (ws : List (List ℕ)) (words : Words outside e (o ∷
       → Judged e (byRdata n (h .rtype) r)
   judge-rdata n h first owner head none q = a-fault (WordFault.no-data words first owner head (not-found (rdata-reads (h .rtype)) (h .rest) q))
   judge-rdata n h first owner head (some bs) q =
-      a-record (record { owner = o; others = ws; rest = h .rest; words = words; first = first; name = owner; head = head; rdata = rdata-is (h .rtype) (h .rest) bs q })
+      a-record (record { owner = o; afterOwner = ws; dataWords = h .rest; words = words; first = first; name = owner; head = head; rdata = rdata-is (h .rtype) (h .rest) bs q })
 
   judge-head : (n : List ℕ) → begins isWordByte e ≡ true → Owner o n → (r : Option Headed) → headOf ws ≡ r → Judged e (byHead n r)
   judge-head n first owner none q =

@@ -8,7 +8,7 @@ use lib.ListN.{length, length-append}
 use Rattle.base.specs.Logic.{Every}
 use Rattle.base.proofs.Lists.{append-split}
 use Rattle.grammar.specs.Listing.{outside, Words, Entries, Records}
-use Rattle.grammar.proofs.Scan.{plain, Ending, atEnd, atLine, atFault, Laid, scan}
+use Rattle.grammar.specs.Scan.{plain, Ending, atEnd, atLine, atFault, Laid, scan}
 use Rattle.grammar.proofs.ScanLaws.{words-scan, line-scan}
 
 afterLine : Ending → List ℕ

@@ -1,10 +1,11 @@
--- Functions that decide a relation: they find what is related, and nothing else; and the tests that they are made of. Assumes nothing.
+-- Functions that decide a relation: they find what is related, and nothing else; and the tests that they are made of (specs/Deciding.antt). Assumes nothing.
 use mathlib.Core.Bool.{Bool, true, false, _&&_}
 use mathlib.Core.Path.{_≡_, refl, sym, ap, ap₂, _∙_}
 use mathlib.Core.Option.{Option, none, some, Option·none-ne-some}
 use mathlib.Core.List.{List, [], _∷_}
 use Rattle.base.specs.Logic.{Every}
 use Rattle.base.proofs.Tests.{and-left, and-right}
+use Rattle.grammar.specs.Deciding.{provided, all}
 
 -- f finds just what R gives
 pub record Reads {A B : Type 0} (f : A → Option B) (R : A → B → Type 0) : Type 0 where
@@ -25,11 +26,6 @@ none-found {B = B} {f = f} reads a never = go (f a) refl
 
 -- ---- an answer under a condition
 
--- r if the test t passes, and none if not
-unfoldable pub provided : {A : Type 0} → Bool → Option A → Option A
-provided true r = r
-provided false r = none
-
 module _ {A : Type 0} where
   -- the test passes, so the answer is r
   pub provided-by : {t : Bool} {r : Option A} → t ≡ true → provided t r ≡ r
@@ -43,11 +39,6 @@ module _ {A : Type 0} where
   provided-is {t = false} {r} {a} e = absurd (Option·none-ne-some a e)
 
 -- ---- each element passes a test
-
--- the test that decides Every, if p decides P
-unfoldable pub all : {A : Type 0} → (A → Bool) → List A → Bool
-all p [] = true
-all p (a ∷ l) = p a && all p l
 
 module _ {A : Type 0} {P : A → Type 0} (p : A → Bool) where
   pub all-true : ((a : A) → p a ≡ true → P a) → (l : List A) → all p l ≡ true → Every P l

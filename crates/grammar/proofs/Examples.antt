@@ -7,20 +7,21 @@ use Rattle.base.specs.Dhcid.{identifierType, digestType, wellFormed}
 use Rattle.base.specs.Logic.{Every}
 use Rattle.name.specs.Label.{isUpper, isLower, isDigit, isLabelByte, lower}
 use Rattle.name.specs.Name.{wire}
-use Rattle.name.proofs.TextLaws.{lead, shifted, valid}
+use Rattle.name.specs.Promise.{lead}
+use Rattle.name.specs.TextTest.{shifted, valid}
 use Rattle.text.specs.Digits.{digitValue}
 use Rattle.dhcid_text.specs.Dhcid.{digit64, base64, joined}
-use Rattle.dhcid_text.specs.DhcidReading.{value64}
+use Rattle.dhcid_text.specs.Base64.{value64}
 use Rattle.grammar.specs.Listing.{isVisible, kindOf, mnemonic}
 use Rattle.grammar.specs.Outcome.{Outcome, Answered}
 use Rattle.grammar.specs.Examples.{Row, of, anA, tank, client, clientDhcid, rows, Hold}
-use Rattle.grammar.proofs.Deciding.{provided, all}
-use Rattle.grammar.proofs.Scan.{scan}
-use Rattle.grammar.proofs.OwnerReader.{ownerOf}
-use Rattle.grammar.proofs.AddressReader.{fieldsOf, numbersOf, aOf, aaaaOf}
-use Rattle.grammar.proofs.DhcidReader.{tested, threes, unbase64, base64Of, unhex, genericOf, dhcidOf}
-use Rattle.grammar.proofs.Content.{isWord, typeOf, headOf, rdataOf, contentOf}
-use Rattle.grammar.proofs.Reader.{readUpTo, read, check, answer}
+use Rattle.grammar.specs.Deciding.{provided, all}
+use Rattle.grammar.specs.Scan.{scan}
+use Rattle.grammar.specs.OwnerReader.{ownerOf}
+use Rattle.grammar.specs.AddressReader.{fieldsOf, numbersOf, aOf, aaaaOf}
+use Rattle.grammar.specs.DhcidReader.{tested, threes, unbase64, base64Of, unhex, genericOf, dhcidOf}
+use Rattle.grammar.specs.Content.{isWord, typeOf, headOf, rdataOf, contentOf}
+use Rattle.grammar.specs.Reader.{readUpTo, read, check, answer}
 use Rattle.grammar.proofs.ReaderLaws.{answers}
 
 -- what the function answers to a row's text

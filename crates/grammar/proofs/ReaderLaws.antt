@@ -1,4 +1,4 @@
--- The functions of proofs/Reader.antt find just what the definitions say of a text and of a call. Assumes nothing.
+-- The functions of specs/Reader.antt find just what the definitions say of a text and of a call. Assumes nothing.
 use Prim.Native.Nat.{ℕ, zero, suc, _+_, _-_, _≤_, _<_}
 use mathlib.Core.Bool.{Bool, true, false, cond, true≢false}
 use mathlib.Core.Path.{_≡_, refl, sym, ap, subst, _∙_}
@@ -12,11 +12,11 @@ use Rattle.base.specs.Refusal.{listingLong, entryShape, rowShort}
 use Rattle.grammar.specs.Listing.{isWordByte, begins, outside, Words, Entries, ResourceRecord, Records, Spells}
 use Rattle.grammar.specs.Faults.{ShapeFault, Faulty, ended, Refused}
 use Rattle.grammar.specs.Outcome.{Outcome, accepted, refused, Checked, Answered}
-use Rattle.grammar.proofs.Scan.{plain, scan}
+use Rattle.grammar.specs.Scan.{plain, scan}
 use Rattle.grammar.proofs.ScanLaws.{words-scan, fault-scan, line-scan, line-begins, LaidOut, to-end, to-line, to-fault, laid-out}
-use Rattle.grammar.proofs.Content.{Content, nothing, one, fault, contentOf}
+use Rattle.grammar.specs.Content.{Content, nothing, one, fault, contentOf}
 use Rattle.grammar.proofs.ContentLaws.{fault-words, Judged, no-words, a-record, a-fault, judge, judged}
-use Rattle.grammar.proofs.Reader.{Verdict, right, wrong, alone, followed, byEnding, readUpTo, read, outcome, check, inPlaces, answer}
+use Rattle.grammar.specs.Reader.{Verdict, right, wrong, alone, followed, byEnding, readUpTo, read, outcome, check, inPlaces, answer}
 
 -- ---- one entry
 
@@ -44,13 +44,13 @@ read-records : {t : List ℕ} {es : List (List ℕ)} {rs : List ResourceRecord} 
 read-records c r zero h = absurd (omega arith)
 read-records (Entries.last {e} w) (Records.no-record z Records.none) (suc n) h = entry-to-end n z ∙ ap alone (judged e nothing (no-words z) [] z)
 read-records (Entries.last {e} w) (Records.a-record {r = r} z Records.none) (suc n) h =
-    entry-to-end n (z .words) ∙ ap alone (judged e (one r) (a-record z) (z .owner ∷ z .others) (z .words))
+    entry-to-end n (z .words) ∙ ap alone (judged e (one r) (a-record z) (z .owner ∷ z .afterOwner) (z .words))
 read-records (Entries.more {e = e} {u = u} q w c) (Records.no-record z rs) (suc n) h =
     let k = rest-shorter e u q in
     entry-to-line n u q z ∙ rw (judged e nothing (no-words z) [] z, read-records c rs n (omega arith))
 read-records (Entries.more {e = e} {u = u} q w c) (Records.a-record {r = r} z rs) (suc n) h =
     let k = rest-shorter e u q in
-    entry-to-line n u q (z .words) ∙ rw (judged e (one r) (a-record z) (z .owner ∷ z .others) (z .words), read-records c rs n (omega arith))
+    entry-to-line n u q (z .words) ∙ rw (judged e (one r) (a-record z) (z .owner ∷ z .afterOwner) (z .words), read-records c rs n (omega arith))
 
 faulty-read : {t : List ℕ} {k : ℕ} → Faulty t k → (n : ℕ) → readUpTo (suc n) t ≡ wrong [] k 0
 faulty-read (Faulty.shape f) n = entry-to-fault n f
@@ -80,7 +80,7 @@ read-before (e ∷ es) {from = from} (Records.a-record {r = r₁} z r) q f (suc 
     let next = next-cut e es from q in
     let k = rest-shorter e (ended es ++ from) next in
     entry-to-line n (ended es ++ from) next (z .words)
-    ∙ rw (judged e (one r₁) (a-record z) (z .owner ∷ z .others) (z .words), read-before es r refl f n (omega arith), next-offset e es)
+    ∙ rw (judged e (one r₁) (a-record z) (z .owner ∷ z .afterOwner) (z .words), read-before es r refl f n (omega arith), next-offset e es)
 
 -- ---- what a text comes to, by the definitions
 
@@ -90,7 +90,7 @@ pub data Comes (t : List ℕ) : Verdict → Type 0 where
 
 comes-up-to : {t : List ℕ} {v : Verdict} → Comes t v → (n : ℕ) → length t < n → readUpTo n t ≡ v
 comes-up-to (spelled s) n h = read-records (s .cut) (s .records) n h
-comes-up-to (faulted {rs} {n = k} f) n h = read-before (f .before) (f .records) (f .cut) (f .faulty) n h ∙ ap (wrong rs k) (sym (f .place))
+comes-up-to (faulted {rs} {n = k} f) n h = read-before (f .before) (f .records) (f .cut) (f .faulty) n h ∙ ap (wrong rs k) (sym (f .at))
 
 -- ---- every text comes to what the function finds
 
@@ -98,7 +98,7 @@ comes-alone : {t : List ℕ} {c : Content} {ws : List (List ℕ)} → Words outs
 unfolding ended
 comes-alone {t} w (no-words z) = spelled (record { entries = t ∷ []; cut = Entries.last w; records = Records.no-record z Records.none })
 comes-alone {t} w (a-record z) = spelled (record { entries = t ∷ []; cut = Entries.last w; records = Records.a-record z Records.none })
-comes-alone {t} w (a-fault f) = faulted (record { before = []; from = t; cut = refl; records = Records.none; faulty = Faulty.last-entry f; place = refl })
+comes-alone {t} w (a-fault f) = faulted (record { before = []; from = t; cut = refl; records = Records.none; faulty = Faulty.last-entry f; at = refl })
 
 module _ {t : List ℕ} (e u : List ℕ) {ws : List (List ℕ)} (q : t ≡ e ++ 10 ∷ u) (w : Words outside e ws) where
   later-cut : (es : List (List ℕ)) (from : List ℕ) → u ≡ ended es ++ from → t ≡ ended (e ∷ es) ++ from
@@ -117,7 +117,7 @@ module _ {t : List ℕ} (e u : List ℕ) {ws : List (List ℕ)} (q : t ≡ e ++ 
         cut = later-cut (f .before) (f .from) (f .cut);
         records = Records.no-record z (f .records);
         faulty = f .faulty;
-        place = ap (λ (k : ℕ). length e + 1 + k) (f .place) ∙ next-offset e (f .before);
+        at = ap (λ (k : ℕ). length e + 1 + k) (f .at) ∙ next-offset e (f .before);
       })
   comes-followed (a-record z) (spelled s) =
       spelled (record { entries = e ∷ s .entries; cut = Entries.more q w (s .cut); records = Records.a-record z (s .records) })
@@ -129,10 +129,10 @@ module _ {t : List ℕ} (e u : List ℕ) {ws : List (List ℕ)} (q : t ≡ e ++ 
         cut = later-cut (f .before) (f .from) (f .cut);
         records = Records.a-record z (f .records);
         faulty = f .faulty;
-        place = ap (λ (k : ℕ). length e + 1 + k) (f .place) ∙ next-offset e (f .before);
+        at = ap (λ (k : ℕ). length e + 1 + k) (f .at) ∙ next-offset e (f .before);
       })
   comes-followed (a-fault f) v =
-      faulted (record { before = []; from = t; cut = refl; records = Records.none; faulty = Faulty.ended-entry u q f; place = refl })
+      faulted (record { before = []; from = t; cut = refl; records = Records.none; faulty = Faulty.ended-entry u q f; at = refl })
 
 comes-laid : (n : ℕ) (t : List ℕ) → ((u : List ℕ) → length u < length t → Comes u (readUpTo n u)) → LaidOut outside t → Comes t (readUpTo (suc n) t)
 unfolding ended
@@ -141,7 +141,7 @@ comes-laid n t shorter (to-line e u ws q w) =
     subst (Comes t) (sym (entry-to-line n u q w)) (comes-followed e u q w (judge e ws w) (shorter u (rest-shorter e u q)))
 comes-laid n t shorter (to-fault f) =
     subst (Comes t) (sym (entry-to-fault n f))
-    (faulted (record { before = []; from = t; cut = refl; records = Records.none; faulty = Faulty.shape f; place = refl }))
+    (faulted (record { before = []; from = t; cut = refl; records = Records.none; faulty = Faulty.shape f; at = refl }))
 
 comes-within : (n : ℕ) (t : List ℕ) → length t < n → Comes t (readUpTo n t)
 comes-within zero t h = absurd (omega arith)

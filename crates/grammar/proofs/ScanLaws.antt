@@ -1,16 +1,15 @@
 -- The scan finds the words and the end that the definitions give to an entry, and every text has them. Assumes nothing.
 use Prim.Native.Nat.{ℕ, zero, suc, _≤_, _<_}
-use mathlib.Core.Bool.{Bool, true, false, cond, _||_, true≢false, false≢true}
+use mathlib.Core.Bool.{Bool, true, false, true≢false, false≢true}
 use mathlib.Core.Path.{_≡_, refl, sym, ap, _∙_}
 use mathlib.Core.List.{List, [], _∷_, _++_, append-assoc}
 use native.Mathlib.Omega.{arith}
-use lib.Dec.{eqb}
 use lib.ListN.{length}
-use borrow.Author.Tests.{eqb-true}
 use Rattle.base.specs.Logic.{Every}
-use Rattle.grammar.specs.Listing.{Kind, blank, lineEnd, opening, closing, semicolon, wordByte, notAllowed, isVisible, kindOf, isWordKind, isCommentKind, isWordByte, isCommentByte, begins, LongestRun, Depth, outside, inside, Piece, a-blank, line-inside, opens, closes, a-comment, a-word, Words}
+use Rattle.grammar.specs.Listing.{Kind, blank, lineEnd, opening, closing, semicolon, wordByte, notAllowed, kindOf, isWordKind, isCommentKind, isWordByte, isCommentByte, begins, LongestRun, Depth, outside, inside, Piece, a-blank, line-inside, opens, closes, a-comment, a-word, Words}
 use Rattle.grammar.specs.Faults.{ShapeFault}
-use Rattle.grammar.proofs.Scan.{Mode, plain, comment, letter, atEnd, atLine, atFault, Laid, act, depthAfter, modeAfter, put, scan}
+use Rattle.grammar.specs.Scan.{Mode, plain, comment, letter, atEnd, atLine, atFault, Laid, act, depthAfter, modeAfter, put, scan, preceded}
+use Rattle.grammar.proofs.BytesLaws.{of-kind}
 
 -- ---- one byte
 
@@ -57,10 +56,6 @@ word-byte d b t semicolon e c = absurd (false≢true c)
 word-byte d b t notAllowed e c = absurd (false≢true c)
 
 -- ---- one piece
-
--- with words before
-abbrev pub preceded : List (List ℕ) → Laid → Laid
-preceded vs r = record { words = vs ++ r .words; ending = r .ending }
 
 word-run : (d : Depth) (b : ℕ) (w rest : List ℕ) → Every (λ b. isWordByte b ≡ true) (b ∷ w) → begins isWordByte rest ≡ false
     → scan plain d (b ∷ w ++ rest) ≡ preceded ((b ∷ w) ∷ []) (scan plain d rest)
@@ -121,7 +116,7 @@ line-kind : kindOf 10 ≡ lineEnd
 unfolding kindOf
 line-kind = refl
 
-no-comment : isCommentByte 10 ≡ false
+pub no-comment : isCommentByte 10 ≡ false
 no-comment = ap isCommentKind line-kind
 
 no-word : isWordByte 10 ≡ false
@@ -138,29 +133,6 @@ piece-on u (a-word r) = a-word (run-on isWordByte 10 u no-word r)
 pub line-scan : {d : Depth} {e : List ℕ} {ws : List (List ℕ)} (u : List ℕ) → Words d e ws → scan plain d (e ++ 10 ∷ u) ≡ record { words = ws; ending = atLine u }
 line-scan u Words.at-end = byte-scan plain outside 10 u lineEnd line-kind
 line-scan u (Words.more {vs = vs} p w e) = piece-scan (piece-on u p) ∙ ap (preceded vs) (line-scan u w) ∙ rw e
-
-isLineEnd : Kind → Bool
-isLineEnd lineEnd = true
-isLineEnd blank = false
-isLineEnd opening = false
-isLineEnd closing = false
-isLineEnd semicolon = false
-isLineEnd wordByte = false
-isLineEnd notAllowed = false
-
-line-byte : (b : ℕ) → kindOf b ≡ lineEnd → b ≡ 10
-unfolding kindOf isLineEnd
-line-byte b e = go (eqb b 9 || eqb b 32) (eqb b 10) refl (eqb b 40) (eqb b 41) (eqb b 59) (isVisible b) (ap isLineEnd e)
-  where
-    go : (c n : Bool) → eqb b 10 ≡ n → (o l s w : Bool)
-        → isLineEnd (cond c blank (cond n lineEnd (cond o opening (cond l closing (cond s semicolon (cond w wordByte notAllowed)))))) ≡ true → b ≡ 10
-    go c true q o l s w h = eqb-true b 10 q
-    go true false q o l s w h = absurd (false≢true h)
-    go false false q true l s w h = absurd (false≢true h)
-    go false false q false true s w h = absurd (false≢true h)
-    go false false q false false true w h = absurd (false≢true h)
-    go false false q false false false true h = absurd (false≢true h)
-    go false false q false false false false h = absurd (false≢true h)
 
 -- an entry begins as it does with a 10 after it
 pub line-begins : (e u : List ℕ) → begins isWordByte (e ++ 10 ∷ u) ≡ begins isWordByte e
@@ -222,7 +194,7 @@ module _ (b : ℕ) (t : List ℕ) (shorter : (d : Depth) (u : List ℕ) → leng
   laid-byte d wordByte e =
       let r = longest-run isWordByte t in piece-before (a-word (run-more isWordByte b (ap isWordKind e) (r .is))) (shorter d (r .rest) (r .shorter))
   laid-byte d blank e = piece-before (a-blank e) (shorter d t (omega arith))
-  laid-byte outside lineEnd e = to-line [] t [] (ap (λ (x : ℕ). x ∷ t) (line-byte b e)) Words.at-end
+  laid-byte outside lineEnd e = to-line [] t [] (ap (λ (x : ℕ). x ∷ t) (of-kind b e)) Words.at-end
   laid-byte inside lineEnd e = piece-before (line-inside e) (shorter inside t (omega arith))
   laid-byte outside opening e = piece-before (opens e) (shorter inside t (omega arith))
   laid-byte inside opening e = to-fault (ShapeFault.nested e)

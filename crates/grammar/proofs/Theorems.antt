@@ -1,14 +1,18 @@
 -- The public theorems of `grammar`, about the definitions of specs/ alone; each is proved by citation. Assumes nothing.
 use Prim.Native.Nat.{ℕ, _≤_}
+use mathlib.Core.Bool.{false}
 use mathlib.Core.Path.{_≡_, sym, _∙_}
 use mathlib.Core.Logic.{_⊎_, _↔_}
 use mathlib.Core.List.{List, []}
 use lib.ListN.{length}
 use Rattle.base.specs.Logic.{Every}
 use Rattle.grammar.specs.Listing.{outside, Words, Entries, ResourceRecord, Spells}
+use Rattle.grammar.specs.Whole.{AllowedByte, uncommented, parentheses, pairs, Whole, Sized}
 use Rattle.grammar.specs.Faults.{Refused}
 use Rattle.grammar.specs.Outcome.{Outcome, accepted, Checked, Answered}
 use Rattle.grammar.proofs.CutLaws.{one-cutting, no-records}
+use Rattle.grammar.proofs.PairLaws.{entries-whole, whole-entries}
+use Rattle.grammar.proofs.SizeLaws.{records-sized}
 use Rattle.grammar.proofs.ReaderLaws
 
 -- ---- entries
@@ -20,6 +24,24 @@ one-cut t es fs c d = one-cutting c d
 -- a text none of whose entries has words spells the empty list
 pub no-words : (t : List ℕ) (es : List (List ℕ)) → Entries t es → Every (λ e. Words outside e []) es → Spells t []
 no-words t es c h = record { entries = es; cut = c; records = no-records es h }
+
+-- ---- a whole text
+
+-- a text can be cut into entries exactly if its bytes are allowed ones and its parentheses outside comments stand in pairs, each ( before its ), that do not nest
+pub entries-exactly : (t : List ℕ) → ((es : List (List ℕ)) × Entries t es) ↔ Whole t
+entries-exactly t = (λ c. entries-whole (c .1), λ w. whole-entries t w)
+
+-- so both are true of a listing that spells a list
+module _ (t : List ℕ) (rs : List ResourceRecord) (s : Spells t rs) where
+  pub allowed-bytes : Every AllowedByte t
+  allowed-bytes = entries-whole (s .cut) .allowed
+
+  pub paired-parentheses : (n : ℕ) × (parentheses (uncommented false t) ≡ pairs n)
+  paired-parentheses = let w = entries-whole (s .cut) in (w .count, w .paired)
+
+  -- and the data of its records are 4, 16 or 35 bytes
+  pub sized-data : Every Sized rs
+  sized-data = records-sized (s .records)
 
 -- ---- texts
 
@@ -38,11 +60,11 @@ not-both t rs qs n offset s r = ReaderLaws.apart s r
 
 -- with one number at one offset; and the records of the entries before the first faulty one, which the reader of one record at a time gives, are
 -- one list too
-module _ (t : List ℕ) (rs qs : List ResourceRecord) (n m offset place : ℕ) (r : Refused t rs n offset) (s : Refused t qs m place) where
+module _ (t : List ℕ) (rs qs : List ResourceRecord) (n m offset offset′ : ℕ) (r : Refused t rs n offset) (s : Refused t qs m offset′) where
   pub one-number : n ≡ m
   one-number = ReaderLaws.same-number r s
 
-  pub one-offset : offset ≡ place
+  pub one-offset : offset ≡ offset′
   one-offset = ReaderLaws.same-offset r s
 
   pub one-before : rs ≡ qs

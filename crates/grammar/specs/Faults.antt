@@ -47,4 +47,4 @@ pub record Refused (t : List ℕ) (rs : List ResourceRecord) (n offset : ℕ) : 
   pub cut : t ≡ ended before ++ from
   pub records : Records before rs
   pub faulty : Faulty from n
-  pub place : offset ≡ length (ended before)
+  pub at : offset ≡ length (ended before)

@@ -1,4 +1,12 @@
 pub mod Listing
+pub mod Whole
 pub mod Faults
 pub mod Outcome
 pub mod Examples
+pub mod Deciding
+pub mod Scan
+pub mod OwnerReader
+pub mod AddressReader
+pub mod DhcidReader
+pub mod Content
+pub mod Reader

@@ -122,7 +122,7 @@ EitherCase v w = map lower v ≡ map lower w
 -- Paragraph 3, the owner: the word w is a proper name in text, and n is that name in canonical wire form
 pub record Owner (w n : List ℕ) : Type 0 where
   pub wire : List ℕ
-  pub spells : Name.Spells w wire
+  pub spells : Name.SpellsName w wire
   pub form : n ≡ canonical wire
 
 -- Paragraph 1, what may stand between owner and type: at most one word, and that one IN
@@ -150,13 +150,13 @@ pub data Rdata : RecordType → List (List ℕ) → List ℕ → Type 0 where
 -- that the first byte of e is a word's
 pub record RecordEntry (e : List ℕ) (r : ResourceRecord) : Type 0 where
   pub owner : List ℕ
-  pub others : List (List ℕ)
-  pub rest : List (List ℕ)
-  pub words : Words outside e (owner ∷ others)
+  pub afterOwner : List (List ℕ)
+  pub dataWords : List (List ℕ)
+  pub words : Words outside e (owner ∷ afterOwner)
   pub first : begins isWordByte e ≡ true
   pub name : Owner owner (r .owner)
-  pub head : Head others (r .rtype) rest
-  pub rdata : Rdata (r .rtype) rest (r .rdata)
+  pub head : Head afterOwner (r .rtype) dataWords
+  pub rdata : Rdata (r .rtype) dataWords (r .rdata)
 
 -- Paragraphs 1 and 3: each of the entries es that has words spells one of the records rs, in turn; an entry with none is no record
 pub data Records : List (List ℕ) → List ResourceRecord → Type 0 where
@@ -164,8 +164,8 @@ pub data Records : List (List ℕ) → List ResourceRecord → Type 0 where
   no-record : {e : List ℕ} {es : List (List ℕ)} {rs : List ResourceRecord} → Words outside e [] → Records es rs → Records (e ∷ es) rs
   a-record : {e : List ℕ} {es : List (List ℕ)} {r : ResourceRecord} {rs : List ResourceRecord} → RecordEntry e r → Records es rs → Records (e ∷ es) (r ∷ rs)
 
--- Paragraph 3: the text t spells the list rs. Its bytes are then allowed ones and its parentheses outside comments pairs that do not nest, since every
--- entry is made of pieces, which have no other bytes, and ends outside
+-- Paragraph 3: the text t spells the list rs. That its bytes are then allowed ones and its parentheses outside comments pairs that do not nest, and that a
+-- text which has both can be cut into entries, are theorems (specs/Whole.antt; proofs/Theorems.antt, entries-exactly)
 pub record Spells (t : List ℕ) (rs : List ResourceRecord) : Type 0 where
   pub entries : List (List ℕ)
   pub cut : Entries t entries

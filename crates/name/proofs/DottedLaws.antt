@@ -5,13 +5,13 @@ use mathlib.Core.List.{List, [], _∷_, _++_, append-assoc}
 use native.Mathlib.Omega.{arith}
 use lib.ListN.{length, getD, take, drop, set, length-append, length-drop, length-set}
 use lib.Seq.{append-snoc, drop-drop, getD-drop, length-take-le, set-at, split-at, take-all, take-at}
-use Rattle.base.specs.Bytes.{overlay}
+use Rattle.base.specs.Bytes.{ascii, overlay}
 use Rattle.base.proofs.Bytes.{length-overlay, drop-overlay}
 use Rattle.name.specs.Name.{wire, text}
 use Rattle.name.specs.Promise.{dotted, textOf}
 
 length-dotted : (n : List ℕ) (k : ℕ) → length (dotted k n) ≡ length n
-unfolding dotted
+unfolding dotted ascii
 length-dotted [] k = refl
 length-dotted (b ∷ n) zero = ap suc (length-dotted n b)
 length-dotted (b ∷ n) (suc k) = ap suc (length-dotted n k)
@@ -28,17 +28,17 @@ textOf-some (b ∷ n) some = refl
 
 -- a label, and the length after it
 dotted-label : (l n : List ℕ) → dotted (length l) (l ++ n) ≡ l ++ dotted 0 n
-unfolding dotted
+unfolding dotted ascii
 dotted-label [] n = refl
 dotted-label (b ∷ l) n = ap (λ (t : List ℕ). b ∷ t) (dotted-label l n)
 
 dotted-run : (l n : List ℕ) (b : ℕ) → dotted (length l) (l ++ b ∷ n) ≡ l ++ 46 ∷ dotted b n
-unfolding dotted
+unfolding dotted ascii
 dotted-run l n b = dotted-label l (b ∷ n)
 
 -- a label that is cut off
 dotted-short : (n : List ℕ) (k : ℕ) → length n ≤ k → dotted k n ≡ n
-unfolding dotted
+unfolding dotted ascii
 dotted-short [] k h = refl
 dotted-short (b ∷ n) zero h = absurd (omega arith)
 dotted-short (b ∷ n) (suc k) h = ap (λ (l : List ℕ). b ∷ l) (dotted-short n k (omega arith))
@@ -149,11 +149,11 @@ module _ (to : List ℕ) (at : ℕ) (n d : List ℕ) (i : ℕ) (h : Dotting to a
 -- ---- of the wire form of labels it is their text
 
 dotted-wire : (ls : List (List ℕ)) → dotted 0 (wire ls) ≡ 46 ∷ text ls
-unfolding dotted wire text
+unfolding dotted wire text ascii
 dotted-wire [] = refl
 dotted-wire (l ∷ ls) = ap (λ (t : List ℕ). 46 ∷ t) (dotted-label l (wire ls) ∙ ap (λ (t : List ℕ). l ++ t) (dotted-wire ls))
 
 pub textOf-wire : (ls : List (List ℕ)) → 1 ≤ length ls → textOf (wire ls) ≡ text ls
-unfolding textOf wire text
+unfolding textOf wire text ascii
 textOf-wire [] some = absurd (omega arith)
 textOf-wire (l ∷ ls) some = dotted-label l (wire ls) ∙ ap (λ (t : List ℕ). l ++ t) (dotted-wire ls)

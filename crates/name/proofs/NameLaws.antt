@@ -5,6 +5,7 @@ use mathlib.Core.Path.{_≡_, refl, sym, ap, ap₂, _∙_}
 use mathlib.Core.List.{List, [], _∷_, _++_, map, head-eq-of-cons-eq, tail-eq-of-cons-eq}
 use native.Mathlib.Omega.{arith}
 use lib.ListN.{length, getD, length-append, length-map, List·getD-map}
+use Rattle.base.specs.Bytes.{ascii}
 use Rattle.base.specs.Logic.{Every}
 use Rattle.base.proofs.Lists.{append-split, nil≢append, run-split, map-append, every-map, map-pairwise, pairwise-map}
 use Rattle.name.specs.Label.{Label, isUpper, isLower, isDigit, isLabelByte, lower}
@@ -27,7 +28,7 @@ unfolding isLabelByte isUpper isLower isDigit
 no-dot = refl
 
 pub text-split : (ls ms : List (List ℕ)) → Every Label ls → Every Label ms → text ls ≡ text ms → ls ≡ ms
-unfolding text
+unfolding text ascii
 text-split [] [] h k e = refl
 text-split [] (m ∷ ms) h k e = absurd (nil≢append m 46 (text ms) e)
 text-split (l ∷ ls) [] h k e = absurd (nil≢append l 46 (text ls) (sym e))
@@ -38,7 +39,7 @@ text-split (l ∷ ls) (m ∷ ms) (Every.more hl h) (Every.more km k) e =
 -- ---- lengths
 
 pub length-text : (ls : List (List ℕ)) → length (text ls) + 1 ≡ length (wire ls)
-unfolding text wire
+unfolding text wire ascii
 length-text [] = refl
 length-text (l ∷ ls) = omega (arith, length-append l (46 ∷ text ls), length-append l (wire ls), length-text ls)
 

@@ -10,13 +10,13 @@ use lib.Dec.{leb, eqb}
 use lib.ListN.{length, getD, take, drop, set, replicate, length-drop, length-append, drop-of-length-le}
 use lib.Seq.{drop-cons, set-at, drop-at, drop-drop, take-at}
 use borrow.Author.Tests.{ne-eqb, le-leb, lt-leb, leb-true}
-use Rattle.base.specs.Bytes.{overlay}
+use Rattle.base.specs.Bytes.{ascii, overlay, padded}
 use Rattle.base.specs.Logic.{Every}
 use Rattle.base.proofs.Bytes.{drop-replicate, take-replicate}
 use Rattle.base.proofs.Lists.{map-append}
 use Rattle.base.proofs.Tests.{and-left, and-right}
 use Rattle.name.specs.Label.{Label, isUpper, isLower, isDigit, isLabelByte, lower}
-use Rattle.name.specs.Name.{wire, text, Spells, canonical, padded}
+use Rattle.name.specs.Name.{wire, text, SpellsName, canonical}
 use Rattle.name.specs.Promise.{Reads, ReadsNone, noName}
 use Rattle.name.specs.NotInLabel.{isCanonicalLabelByte, notInLabel, countNotInLabel}
 use Rattle.name.specs.declared.WireName.{WireName}
@@ -33,38 +33,38 @@ valid-some [] e = absurd (false≢true (unfold valid in e))
 valid-some (b ∷ w) e = omega arith
 
 module _ (w : List ℕ) where
-  pub refused : (r : WireName) → r ≡ noName → ((n : List ℕ) → Spells w n → ⊥) → Reads w r ⊎ ReadsNone w r
+  pub refused : (r : WireName) → r ≡ noName → ((n : List ℕ) → SpellsName w n → ⊥) → Reads w r ⊎ ReadsNone w r
   unfolding noName
   refused r e none = inr (record { none = none; bytes = ap (λ (x : WireName). x .bytes) e; len = ap (λ (x : WireName). x .len) e })
 
-  length-word : (n : List ℕ) → Spells w n → length w + 1 ≡ length n
+  length-word : (n : List ℕ) → SpellsName w n → length w + 1 ≡ length n
   length-word n s = ap (λ (l : List ℕ). length l + 1) (s .word) ∙ length-text (s .labels) ∙ sym (ap length (s .form))
 
-  pub too-long : (n : List ℕ) → Spells w n → 254 < length w → ⊥
+  pub too-long : (n : List ℕ) → SpellsName w n → 254 < length w → ⊥
   too-long n s long = omega (arith, length-word n s, s .name .short, ap length (s .form))
 
   spelled : (ls : List (List ℕ)) → 1 ≤ length ls → Every Label ls → w ≡ text ls → (valid w ≡ true) × (1 ≤ lead w)
   spelled [] some h e = absurd (omega arith)
   spelled (l ∷ ls) some (Every.more hl h) e = (
     ap valid e ∙ text-valid l ls hl h,
-    (let first : lead w ≡ length l = ap lead e ∙ (unfold text in lead-label (text ls) l (hl .bytes)) in omega (arith, hl .some)),
+    (let first : lead w ≡ length l = ap lead e ∙ (unfold text ascii in lead-label (text ls) l (hl .bytes)) in omega (arith, hl .some)),
   )
 
-  word-valid : (n : List ℕ) → Spells w n → (valid w ≡ true) × (1 ≤ lead w)
+  word-valid : (n : List ℕ) → SpellsName w n → (valid w ≡ true) × (1 ≤ lead w)
   word-valid n s = spelled (s .labels) (s .name .some) (s .name .labels) (s .word)
 
   -- the word after a dot is as a label after one
-  pub invalid : (n : List ℕ) → Spells w n → valid (46 ∷ w) ≡ false → ⊥
+  pub invalid : (n : List ℕ) → SpellsName w n → valid (46 ∷ w) ≡ false → ⊥
   invalid n s e =
       let h = word-valid n s in
       let both : valid (46 ∷ w) ≡ true =
       valid-dot 46 w (some-left w 0 (valid-some w (h .0))) refl ∙ (λ i. le-leb 1 (lead w) (h .1) i && h .0 i) in
       true≢false (sym both ∙ e)
 
-  pub no-first-label : (n : List ℕ) → Spells w n → lead w ≡ 0 → ⊥
+  pub no-first-label : (n : List ℕ) → SpellsName w n → lead w ≡ 0 → ⊥
   no-first-label n s e = omega (arith, word-valid n s .1)
 
-  pub no-bytes : (n : List ℕ) → Spells w n → length w ≡ 0 → ⊥
+  pub no-bytes : (n : List ℕ) → SpellsName w n → length w ≡ 0 → ⊥
   no-bytes n s e = omega (arith, valid-some w (word-valid n s .0))
 
 -- ---- one label and its dot
@@ -282,7 +282,7 @@ module _ (w bytes : List ℕ) (left i : ℕ) (h : Reading w bytes left i) (all :
         len = size;
       }
 
-pub no-last-dot : (w n : List ℕ) (i : ℕ) → Spells w n → i + 1 ≡ length w → (getD w i 0 ≡ 46 → ⊥) → ⊥
+pub no-last-dot : (w n : List ℕ) (i : ℕ) → SpellsName w n → i + 1 ≡ length w → (getD w i 0 ≡ 46 → ⊥) → ⊥
 unfolding valid
 no-last-dot w n i s last dot =
     let alone : drop i w ≡ getD w i 0 ∷ [] = drop-cons w i 0 (omega arith) ∙ ap (λ (l : List ℕ). getD w i 0 ∷ l) (drop-of-length-le w {i = suc i} (omega arith)) in

@@ -7,23 +7,15 @@ use native.Mathlib.Omega.{arith}
 use lib.Dec.{leb, eqb}
 use lib.ListN.{length, drop, length-map}
 use borrow.Author.Tests.{eq-eqb, ne-eqb, le-leb, eqb-true, eqb-false, leb-true}
+use Rattle.base.specs.Bytes.{ascii}
 use Rattle.base.specs.Logic.{Every}
 use Rattle.base.proofs.Tests.{and-left, and-right}
 use Rattle.name.specs.Label.{Label, isUpper, isLower, isDigit, isLabelByte, lower}
 use Rattle.name.specs.Name.{wire, text}
 unfoldable pub use Rattle.name.specs.Promise.{lead}
 use Rattle.name.specs.ProperTest.{isNil}
+unfoldable pub use Rattle.name.specs.TextTest.{shifted, valid}
 use Rattle.name.proofs.NameLaws.{lowered}
-
--- the wire form but for its first length: a dot gives way to the length of the label after it
-unfoldable pub shifted : List ℕ → List ℕ
-shifted [] = []
-shifted (b ∷ w) = cond (eqb b 46) (lead w) (lower b) ∷ shifted w
-
--- the rest of a label, at most 63 bytes, its dot, and labels each with a dot
-unfoldable pub valid : List ℕ → Bool
-valid [] = false
-valid (b ∷ w) = cond (isNil w) (eqb b 46) (cond (eqb b 46) (leb 1 (lead w)) (isLabelByte b && leb (lead w) 62) && valid w)
 
 -- ---- one byte
 
@@ -80,7 +72,7 @@ module _ (w : List ℕ) where
       ∙ (λ i. hb i && room i && valid-label l h (omega arith) e i)
 
 dots-valid : (ls : List (List ℕ)) → Every Label ls → valid (46 ∷ text ls) ≡ true
-unfolding text
+unfolding text ascii
 dots-valid [] h = unfold valid in refl
 dots-valid (l ∷ ls) (Every.more hl h) =
     let w : List ℕ = text ls in
@@ -89,11 +81,11 @@ dots-valid (l ∷ ls) (Every.more hl h) =
     ∙ (λ i. some i && valid-label w l (hl .bytes) (hl .short) (dots-valid ls h) i)
 
 pub text-valid : (l : List ℕ) (ls : List (List ℕ)) → Label l → Every Label ls → valid (text (l ∷ ls)) ≡ true
-unfolding text
+unfolding text ascii
 text-valid l ls hl h = valid-label (text ls) l (hl .bytes) (hl .short) (dots-valid ls h)
 
 dots-shifted : (ls : List (List ℕ)) → Every Label ls → shifted (46 ∷ text ls) ≡ wire (lowered ls)
-unfolding text wire
+unfolding text wire ascii
 dots-shifted [] h = shifted-dot 46 [] refl ∙ (unfold lead shifted in refl)
 dots-shifted (l ∷ ls) (Every.more hl h) =
     shifted-dot 46 (l ++ 46 ∷ text ls) refl
@@ -103,7 +95,7 @@ dots-shifted (l ∷ ls) (Every.more hl h) =
 -- the length of the first label, and the shifted text, are the canonical wire form
 pub text-shifted : (l : List ℕ) (ls : List (List ℕ)) → Label l → Every Label ls
     → lead (text (l ∷ ls)) ∷ shifted (text (l ∷ ls)) ≡ wire (lowered (l ∷ ls))
-unfolding text wire
+unfolding text wire ascii
 text-shifted l ls hl h =
     ap₂ _∷_ (lead-label (text ls) l (hl .bytes) ∙ sym (length-map l lower))
     (shifted-label (text ls) l (hl .bytes) ∙ ap (λ (t : List ℕ). map lower l ++ t) (dots-shifted ls h))
@@ -120,7 +112,7 @@ pub record TextRest (w : List ℕ) : Type 0 where
   pub form : w ≡ text (label ∷ labels)
 
 last-dot : (b : ℕ) → b ≡ 46 → TextRest (b ∷ [])
-unfolding text
+unfolding text ascii
 last-dot b e =
     record {
       label = [];
@@ -133,7 +125,7 @@ last-dot b e =
     }
 
 next-dot : (b : ℕ) (w : List ℕ) → b ≡ 46 → 1 ≤ lead w → TextRest w → TextRest (b ∷ w)
-unfolding text
+unfolding text ascii
 next-dot b w e some r =
     let first : Label (r .label) = record { some = omega (arith, r .long); short = r .short; bytes = r .bytes } in
     record {
@@ -147,7 +139,7 @@ next-dot b w e some r =
     }
 
 next-byte : (b : ℕ) (w : List ℕ) → (b ≡ 46 → ⊥) → isLabelByte b ≡ true → lead w ≤ 62 → TextRest w → TextRest (b ∷ w)
-unfolding text
+unfolding text ascii
 next-byte b w e hb room r =
     record {
       label = b ∷ r .label;

@@ -7,7 +7,7 @@ use native.Mathlib.Omega.{arith}
 use lib.ListN.{length}
 use Rattle.base.specs.Logic.{Every}
 use Rattle.name.specs.Label.{Label}
-use Rattle.name.specs.Name.{wire, text, Name, Proper, Spells, canonical, SameName, CanonicalForm}
+use Rattle.name.specs.Name.{wire, text, Name, Proper, SpellsName, canonical, SameName, CanonicalForm}
 use Rattle.name.specs.Promise.{textOf}
 use Rattle.name.proofs.NameLaws.{wire-split, text-split, lowered, canonical-wire, name-lowered, length-canonical, canonical-again, same-lowered, lowered-same, length-four}
 use Rattle.name.proofs.DottedLaws.{textOf-wire}
@@ -51,14 +51,14 @@ same-name n m p q =
 
 -- ---- text and wire form go into each other and back
 
-pub spelled : (n : List ℕ) → Proper n → Spells (textOf n) n
+pub spelled : (n : List ℕ) → Proper n → SpellsName (textOf n) n
 spelled n p =
     record { labels = p .labels; name = p .name; word = ap textOf (p .form) ∙ textOf-wire (p .labels) (p .name .some); form = p .form }
 
-pub one-name : (w n m : List ℕ) → Spells w n → Spells w m → n ≡ m
+pub one-name : (w n m : List ℕ) → SpellsName w n → SpellsName w m → n ≡ m
 one-name w n m s t = s .form ∙ ap wire (labels-of-text (s .labels) (t .labels) (s .name) (t .name) (sym (s .word) ∙ t .word)) ∙ sym (t .form)
 
-pub one-text : (v w n : List ℕ) → Spells v n → Spells w n → v ≡ w
+pub one-text : (v w n : List ℕ) → SpellsName v n → SpellsName w n → v ≡ w
 one-text v w n s t = s .word ∙ ap text (labels-of-wire (s .labels) (t .labels) (s .name) (t .name) (sym (s .form) ∙ t .form)) ∙ sym (t .word)
 
 -- ---- the limits: labels of 63, 63, 63 and 61 bytes are a name of 255 bytes, and with one byte more they are none

@@ -1,8 +1,9 @@
 -- Domain names. A name is a list of labels; its wire form and its text are two ways to write that list. Document 01, "Names".
-use Prim.Native.Nat.{ℕ, _-_, _≤_}
+use Prim.Native.Nat.{ℕ, _≤_}
 use mathlib.Core.Path.{_≡_}
 use mathlib.Core.List.{List, [], _∷_, _++_, map}
-use lib.ListN.{length, replicate}
+use lib.ListN.{length}
+use Rattle.base.specs.Bytes.{ascii}
 use Rattle.base.specs.Logic.{Every, Pairwise}
 use Rattle.name.specs.Label.{Label, lower}
 
@@ -11,10 +12,10 @@ unfoldable pub wire : List (List ℕ) → List ℕ
 wire [] = 0 ∷ []
 wire (l ∷ ls) = length l ∷ l ++ wire ls
 
--- the labels, each followed by a dot (46)
+-- the labels, each followed by a dot
 unfoldable pub text : List (List ℕ) → List ℕ
 text [] = []
-text (l ∷ ls) = l ++ 46 ∷ text ls
+text (l ∷ ls) = l ++ (ascii "." ++ text ls)
 
 -- a proper name: one or more labels, at most 255 bytes in wire form
 pub record Name (ls : List (List ℕ)) : Type 0 where
@@ -29,7 +30,7 @@ pub record Proper (n : List ℕ) : Type 0 where
   pub form : n ≡ wire labels
 
 -- the word w is a proper name in text, and n is that name in wire form
-pub record Spells (w n : List ℕ) : Type 0 where
+pub record SpellsName (w n : List ℕ) : Type 0 where
   pub labels : List (List ℕ)
   pub name : Name labels
   pub word : w ≡ text labels
@@ -42,10 +43,6 @@ canonical n = map lower n
 -- RFC 4343: two names are the same if they have equally many labels, equal one by one but for the case of letters
 unfoldable pub SameName : List (List ℕ) → List (List ℕ) → Type 0
 SameName = Pairwise (Pairwise (λ a b. lower a ≡ lower b))
-
--- the 255 bytes that hold a name in a record and in a slot of the table: the name, and zeros after it
-unfoldable pub padded : List ℕ → List ℕ
-padded n = n ++ replicate (255 - length n) 0
 
 -- what the canonical form of a proper name n is: proper, as long as n, and canonical already
 pub record CanonicalForm (n : List ℕ) : Type 0 where

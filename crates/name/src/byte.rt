@@ -10,7 +10,7 @@ const LABEL_LOW: u64 = 0x3ff200000000000;
 const LABEL_HIGH: u64 = 0x7fffffe87fffffe;
 
 // A letter, a digit, a hyphen or an underscore.
-pub fn is_label_byte(b: u8) -> bool
+pub(crate) fn is_label_byte(b: u8) -> bool
     ensures { λ r. ⌜ r ≡ spec.isLabelByte b ⌝ }
 {
     is_in(LABEL_LOW, LABEL_HIGH, b)

@@ -111,16 +111,6 @@ pub fn put_canonical(to: &mut [u8], at: usize, name: &[u8])
     }
 }
 
-// The canonical form of a name in a fixed array, zeros after it.
-pub fn canonical(name: &[u8]) -> [u8; 255]
-    requires { ⌜ length (now name) ≤ 255 ⌝ }
-    ensures { λ r. ⌜ r ≡ spec.padded (spec.canonical (now (name .entry))) ⌝ }
-{
-    let mut bytes = [0u8; LONGEST];
-    put_canonical(&mut bytes, 0, name);
-    bytes
-}
-
 // Are the bytes of the chunk from `at` on the same, once `name` is in canonical form? With no way out before its end, so that it is taken at once.
 fn matches_chunk(name: &[u8], held: &[u8], at: usize) -> bool
     requires { ⌜ (at + 16 ≤ length (now name)) × (at + 16 ≤ length (now held)) ⌝ }

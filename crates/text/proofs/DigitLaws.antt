@@ -16,9 +16,9 @@ use Rattle.text.specs.Digits.{digitValue, value, Number, decimal, hexDig
 
 -- a digit's value, from the three tests
 pub digit-value : (x : ℕ) {d u l : Bool} → (leb 48 x && leb x 57) ≡ d → (leb 65 x && leb x 70) ≡ u → (leb 97 x && leb x 102) ≡ l
-    → digitValue x ≡ cond d (x - 48) (cond u (x - 55) (cond l (x - 87) 16))
+    → digitValue x ≡ cond d (x - 48) (cond u (x - 65 + 10) (cond l (x - 97 + 10) 16))
 unfolding digitValue
-digit-value x ed eu el = λ i. cond (ed i) (x - 48) (cond (eu i) (x - 55) (cond (el i) (x - 87) 16))
+digit-value x ed eu el = λ i. cond (ed i) (x - 48) (cond (eu i) (x - 65 + 10) (cond (el i) (x - 97 + 10) 16))
 
 -- a value below ten has one digit
 pub ten-digits : (x : ℕ) → digitValue x < 10 → x ≡ 48 + digitValue x
@@ -71,12 +71,12 @@ hex-digit-value v small = go (decLt v 10)
   where
     go : Dec (v < 10) → digitValue (hexDigit v) ≡ v
     go (yes low) =
-        let e : hexDigit v ≡ v + 48 = unfold hexDigit in ap (λ (t : Bool). cond t (v + 48) (v + 87)) (lt-ltb v 10 low) in
-        ap digitValue e ∙ digit-value (v + 48) (within 48 (v + 48) 57 (omega arith) (omega arith)) refl refl ∙ omega arith
+        let e : hexDigit v ≡ 48 + v = unfold hexDigit in ap (λ (t : Bool). cond t (48 + v) (97 + (v - 10))) (lt-ltb v 10 low) in
+        ap digitValue e ∙ digit-value (48 + v) (within 48 (48 + v) 57 (omega arith) (omega arith)) refl refl ∙ omega arith
     go (no high) =
         let ten : 10 ≤ v = omega (arith, high) in
-        let e : hexDigit v ≡ v + 87 = unfold hexDigit in ap (λ (t : Bool). cond t (v + 48) (v + 87)) (le-ltb v 10 ten) in
-        ap digitValue e ∙ digit-value (v + 87) (over 48 (v + 87) 57 (omega arith)) (over 65 (v + 87) 70 (omega arith)) (within 97 (v + 87) 102 (omega arith) (omega arith))
+        let e : hexDigit v ≡ 97 + (v - 10) = unfold hexDigit in ap (λ (t : Bool). cond t (48 + v) (97 + (v - 10))) (le-ltb v 10 ten) in
+        ap digitValue e ∙ digit-value (97 + (v - 10)) (over 48 (97 + (v - 10)) 57 (omega arith)) (over 65 (97 + (v - 10)) 70 (omega arith)) (within 97 (97 + (v - 10)) 102 (omega arith) (omega arith))
         ∙ omega arith
 
 value-snoc : (base v : ℕ) (w : List ℕ) (x : ℕ) → value base v (w ++ (x ∷ [])) ≡ value base v w * base + digitValue x

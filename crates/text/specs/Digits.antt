@@ -1,5 +1,6 @@
 -- Numbers in digits. A digit's value does not depend on the base: one of 0 to 9 or, in either case, A to F.
 use Prim.Native.Nat.{ℕ, zero, suc, _+_, _-_, _*_, _/_, _%_, _≤_, _<_}
+use Prim.Native.Char.{code}
 use mathlib.Core.Bool.{Bool, true, false, cond, _&&_}
 use mathlib.Core.Path.{_≡_}
 use mathlib.Core.List.{List, [], _∷_, _++_}
@@ -10,9 +11,9 @@ use Rattle.base.specs.Logic.{Every}
 -- the value of a digit; 16, which is no digit's in the bases here, for any other byte
 unfoldable pub digitValue : ℕ → ℕ
 digitValue x =
-    cond (leb 48 x && leb x 57) (x - 48)
-    (cond (leb 65 x && leb x 70) (x - 55)
-    (cond (leb 97 x && leb x 102) (x - 87) 16))
+    cond (leb (code "0") x && leb x (code "9")) (x - code "0")
+    (cond (leb (code "A") x && leb x (code "F")) (x - code "A" + 10)
+    (cond (leb (code "a") x && leb x (code "f")) (x - code "a" + 10) 16))
 
 -- the number that digits go on to, from v on, the highest digit first
 unfoldable pub value : ℕ → ℕ → List ℕ → ℕ
@@ -39,8 +40,8 @@ preceded false s p = s ∷ p
 -- a number in decimal, of at most k digits, with no leading zero
 unfoldable pub decimal : ℕ → ℕ → List ℕ
 decimal zero n = []
-decimal (suc k) n = let front = decimal k (n / 10) in cond (ltb n 10) ((48 + n) ∷ []) (front ++ (48 + n % 10) ∷ [])
+decimal (suc k) n = let front = decimal k (n / 10) in cond (ltb n 10) ((code "0" + n) ∷ []) (front ++ (code "0" + n % 10) ∷ [])
 
 -- the hexadecimal digit of a number below 16, in lower case
 unfoldable pub hexDigit : ℕ → ℕ
-hexDigit v = cond (ltb v 10) (v + 48) (v + 87)
+hexDigit v = cond (ltb v 10) (code "0" + v) (code "a" + (v - 10))

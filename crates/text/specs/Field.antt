@@ -1,5 +1,6 @@
 -- Numbers with a separator between them: what A and AAAA records have in common, so that one function reads both.
 use Prim.Native.Nat.{ℕ, _+_, _-_, _*_, _≤_, _<_}
+use Prim.Native.Char.{code}
 use mathlib.Core.Bool.{Bool, false}
 use mathlib.Core.Path.{_≡_}
 use mathlib.Core.List.{List, _++_}
@@ -13,7 +14,7 @@ use Rattle.text.specs.declared.field.Numbers.{Numbers}
 pub record Field (f : Form) (p : List ℕ) (n : ℕ) : Type 0 where
   pub number : Number (f .base) p n
   pub short : length p ≤ f .most
-  pub shortest : f .«leading_zeros» ≡ false → getD p 0 0 ≡ 48 → length p ≡ 1
+  pub shortest : f .«leading_zeros» ≡ false → getD p 0 0 ≡ code "0" → length p ≡ 1
   pub small : n ≤ f .greatest
 
 -- the word w is as many numbers of the form f as it wants, with its separator between them: ns

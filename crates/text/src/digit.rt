@@ -10,9 +10,9 @@ pub fn digit_value(b: u8) -> u8
     ensures { λ r. ⌜ r ≡ spec.digitValue b ⌝ }
 {
     match b {
-        b'0'..=b'9' => b - 48,
-        b'A'..=b'F' => b - 55,
-        b'a'..=b'f' => b - 87,
+        b'0'..=b'9' => b - b'0',
+        b'A'..=b'F' => b - b'A' + 10,
+        b'a'..=b'f' => b - b'a' + 10,
         _ => 16,
     }
 }
@@ -22,7 +22,7 @@ pub fn hex_digit(v: u8) -> u8
     requires { ⌜ v < 16 ⌝ }
     ensures { λ r. ⌜ r ≡ spec.hexDigit v ⌝ }
 {
-    if v < 10 { v + 48 } else { v + 87 }
+    if v < 10 { b'0' + v } else { b'a' + (v - 10) }
 }
 
 // The digits of a byte in decimal: the first `len` of `digits`, and zeros after them.
@@ -36,18 +36,18 @@ pub fn decimal(n: u8) -> DecimalByte
 {
     if n < 10 {
         return DecimalByte {
-            digits: [48 + n, 0, 0],
+            digits: [b'0' + n, 0, 0],
             len: 1,
         };
     }
     if n < 100 {
         return DecimalByte {
-            digits: [48 + n / 10, 48 + n % 10, 0],
+            digits: [b'0' + n / 10, b'0' + n % 10, 0],
             len: 2,
         };
     }
     DecimalByte {
-        digits: [48 + n / 10 / 10, 48 + n / 10 % 10, 48 + n % 10],
+        digits: [b'0' + n / 10 / 10, b'0' + n / 10 % 10, b'0' + n % 10],
         len: 3,
     }
 }

@@ -8,8 +8,8 @@ use native.Mathlib.Omega.{arith}
 use lib.ListN.{length, take, drop, getD, drop-of-length-le, length-take}
 use lib.Seq.{drop-cons}
 use Rattle.grammar.specs.Listing.{Kind, semicolon, wordByte, kindOf, isWordKind, isWordByte, isCommentByte, begins, LongestRun, Depth, Piece}
-use Rattle.grammar.proofs.Scan.{plain, atTextEnd, act, depthAfter, modeAfter, put, scan}
-use Rattle.grammar.proofs.ScanLaws.{byte-scan, piece-scan, preceded}
+use Rattle.grammar.specs.Scan.{plain, atTextEnd, act, depthAfter, modeAfter, put, scan, preceded}
+use Rattle.grammar.proofs.ScanLaws.{byte-scan, piece-scan}
 use Rattle.words.specs.NextIs.{RunTo}
 
 module _ (t : List ℕ) (i : ℕ) (within : i < length t) where

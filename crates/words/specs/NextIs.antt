@@ -1,5 +1,6 @@
 -- What the functions of `words` promise, in the terms of `grammar`: which kind a byte is, how far a run goes, and what comes next in an entry. `scan` of
--- grammar is an entry's words and its end, from a text and a depth on (grammar, proofs/Scan.antt and ScanLaws.antt).
+-- grammar is an entry's words and its end, from a text and a depth on (grammar, specs/Scan.antt); that it finds what the definitions say is proved there
+-- (grammar, proofs/ScanLaws.antt).
 use Prim.Native.Nat.{ℕ, _-_, _≤_, _<_}
 use mathlib.Core.Bool.{Bool, true, false}
 use mathlib.Core.Path.{_≡_}
@@ -8,8 +9,7 @@ use lib.ListN.{length, take, drop}
 use Rattle.base.specs.Logic.{Every}
 use Rattle.grammar.specs.Listing.{Kind, LongestRun, Depth, outside, inside}
 use Rattle.grammar.specs.Listing
-use Rattle.grammar.proofs.Scan.{plain, atEnd, atLine, atFault, scan}
-use Rattle.grammar.proofs.ScanLaws.{preceded}
+use Rattle.grammar.specs.Scan.{plain, atEnd, atLine, atFault, scan, preceded}
 use Rattle.words.specs.declared.ByteKind.{ByteKind}
 use Rattle.words.specs.declared.ByteKind.the-variants.{Blank, LineEnd, Opening, Closing, Semicolon, Word, NotAllowed}
 use Rattle.words.specs.declared.Next.{Next}

@@ -1,5 +1,6 @@
 // The words of a listing's entry, one at a time, and how the entry ends. A loop passes one piece at each turn, and the runs of a word and of a
-// comment are loops of their own, so each byte is looked at twice at most.
+// comment are loops of their own: so each byte is looked at twice at most for its own piece. Since a word's run is taken in chunks of 32 bytes, it is
+// looked at once more for each word that ends in the 31 bytes before it, which are sixteen at most.
 ghost use mathlib.Core.Path.{_≡_};
 ghost use Prim.Native.Nat.{_+_, _≤_, _<_};
 ghost use mathlib.Core.Bool.{false, cond};
@@ -9,7 +10,7 @@ ghost use Rattle.grammar.specs.Listing.{kindOf, isWordByte, isCommentByte};
 ghost use Rattle.words.specs.NextIs.{kindMeant, PassTo, RunTo, NextIs};
 
 // What a byte is where no comment is open.
-pub enum ByteKind {
+enum ByteKind {
     Blank,
     LineEnd,
     Opening,
@@ -19,7 +20,7 @@ pub enum ByteKind {
     NotAllowed,
 }
 
-pub fn kind_of(b: u8) -> ByteKind
+fn kind_of(b: u8) -> ByteKind
     ensures { λ r. ⌜ kindMeant r ≡ kindOf b ⌝ }
 {
     match b {

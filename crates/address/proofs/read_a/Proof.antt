@@ -7,7 +7,8 @@ use lib.ListN.{getD}
 use Rattle.text.specs.Reading.{yes-read, none-read}
 use Rattle.base.proofs.Fill.{Filled, filled-none, filled-more, filled-all}
 use Rattle.text.proofs.ScanLaws.{was-found, not-found}
-use Rattle.address.proofs.AddressLaws.{octets, octets-usable, a-fields, a-read}
+use Rattle.address.specs.Forms.{octets}
+use Rattle.address.proofs.AddressLaws.{octets-usable, a-fields, a-read}
 use Rattle.address.proofs.read_a.Statement.{statement}
 use Rattle.address.proofs.read_a.Tie as tie
 

@@ -10,7 +10,8 @@ use Rattle.base.specs.Bytes.{inBytes}
 use Rattle.base.proofs.Bytes.{in-bytes-more}
 use lib.Seq.{take-all}
 use Rattle.text.proofs.ScanLaws.{was-found, not-found}
-use Rattle.address.proofs.AddressLaws.{groups, groups-usable, aaaa-fields, aaaa-read}
+use Rattle.address.specs.Forms.{groups}
+use Rattle.address.proofs.AddressLaws.{groups-usable, aaaa-fields, aaaa-read}
 use Rattle.address.proofs.WholeLaws.{none-spelled}
 use Rattle.address.proofs.read_aaaa.Statement.{statement}
 use Rattle.address.proofs.read_aaaa.Tie as tie

@@ -8,7 +8,8 @@ use borrow.Author.Needs.{needs}
 use lib.ListN.{length, take}
 use lib.Seq.{take-all}
 use Rattle.base.specs.Bytes.{tabulate}
-use Rattle.dhcid_text.specs.DhcidReading.{value64, Text64, withBytes}
+use Rattle.dhcid_text.specs.Base64.{value64}
+use Rattle.dhcid_text.specs.DhcidReading.{Text64, withBytes}
 use Rattle.dhcid_text.proofs.DhcidLaws.{one-character-more}
 use Rattle.dhcid_text.proofs.base64_word.Statement.{statement}
 use Rattle.dhcid_text.proofs.base64_word.Tie as tie
@@ -30,7 +31,7 @@ unfolding tabulate value64
 read-quanta-requires c κs = (refl, search needs)
 
 add-t13 : tie.Need-add-t13 Inv-loop μ-loop
-add-t13 c = ⊎-elim (λ e. omega arith) (λ e. omega arith) (c .before .before .read-quanta .ensures .0 .place)
+add-t13 c = ⊎-elim (λ e. omega arith) (λ e. omega arith) (c .before .before .read-quanta .ensures .0 .fits)
 
 cast-i : tie.Need-cast-i Inv-loop μ-loop
 cast-i c = search needs

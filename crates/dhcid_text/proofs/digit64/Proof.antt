@@ -12,8 +12,8 @@ add-result c = search needs
 add-result-2 : tie.Need-add-result-2
 add-result-2 c = search needs
 
-sub-result : tie.Need-sub-result
-sub-result c = search needs
+add-result-3 : tie.Need-add-result-3
+add-result-3 c = search needs
 
 returns : tie.Need-returns
 returns c =
@@ -43,4 +43,4 @@ returns-5 c =
 pub digit64-spec : {M : Type 1} → statement M
 digit64-spec =
     tie.close
-    (tie.spec add-result add-result-2 sub-result returns returns-2 returns-3 returns-4 returns-5)
+    (tie.spec add-result add-result-2 add-result-3 returns returns-2 returns-3 returns-4 returns-5)

@@ -1,4 +1,5 @@
 use denote.Ref.{now}
+use Rattle.base.specs.Bytes.{ascii}
 use Rattle.dhcid_text.proofs.DhcidWordLaws.{first-marker, first-base64}
 use borrow.Author.Needs.{needs}
 use Rattle.dhcid_text.proofs.first_word.Statement.{statement}
@@ -11,6 +12,7 @@ fresh-requires : tie.Need-fresh-requires
 fresh-requires c κs = search needs
 
 returns : tie.Need-returns
+unfolding ascii
 returns c = first-marker (now (c .before .before .before .before .args .word)) _ (c .before .before .is-pair .ensures .if-true (c .before .if1 .taken)) (c .fresh .ensures)
 
 fresh-requires-2 : tie.Need-fresh-requires-2
@@ -20,6 +22,7 @@ base64-word-requires : tie.Need-base64-word-requires
 base64-word-requires c κs = search needs
 
 returns-2 : tie.Need-returns-2
+unfolding ascii
 returns-2 c = first-base64 (now (c .before .before .before .before .before .args .word)) _ _ (c .before .before .before .is-pair .ensures .if-false (c .before .before .if1 .left)) (c .before .fresh2 .ensures) (c .base64-word .ensures)
 
 pub first-word-spec : {M : Type 1} → statement M

@@ -1,5 +1,5 @@
 use mathlib.Core.Path.{refl}
-use Rattle.dhcid_text.specs.DhcidReading.{zeroFilled}
+use Rattle.base.specs.Bytes.{zeroFilled}
 use Rattle.dhcid_text.proofs.fresh.Statement.{statement}
 use Rattle.dhcid_text.proofs.fresh.Tie as tie
 

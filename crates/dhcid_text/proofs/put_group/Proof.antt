@@ -1,4 +1,4 @@
-use Rattle.dhcid_text.specs.DhcidReading.{group}
+use Rattle.dhcid_text.specs.Base64.{group}
 use Prim.Native.Nat.{_+_}
 use mathlib.Core.Path.{_∙_}
 use denote.Ref.{now}

@@ -6,7 +6,8 @@ use denote.Ref.{now}
 use native.Mathlib.Omega.{arith}
 use lib.ListN.{length, take}
 use Rattle.base.specs.Logic.{Every}
-use Rattle.dhcid_text.specs.DhcidReading.{value64, stateOf, Text64}
+use Rattle.dhcid_text.specs.Base64.{value64}
+use Rattle.dhcid_text.specs.DhcidReading.{stateOf, Text64}
 use Rattle.dhcid_text.proofs.DhcidLaws.{none-passed, quantum-passed, no-quantum, quantum-digits, digits-passed}
 use borrow.Author.Needs.{needs}
 use borrow.Author.Tests.{not-true, not-false}
@@ -27,7 +28,7 @@ returns c =
       record {
         whole = refl;
         within = omega arith;
-        place = inl refl;
+        fits = inl refl;
         digits = Every.none;
         most = λ begins. absurd (c .if1 .taken begins);
       },
@@ -57,7 +58,7 @@ returns-2 c =
       record {
         whole = l .inv .0;
         within = l .inv .1;
-        place = l .inv .2;
+        fits = l .inv .2;
         digits = l .inv .4;
         most = λ begins near fits. absurd (omega arith);
       },
@@ -114,7 +115,7 @@ returns-3 c =
       record {
         whole = l .inv .0;
         within = l .inv .1;
-        place = l .inv .2;
+        fits = l .inv .2;
         digits = l .inv .4;
         most = λ begins near fits. no-quantum w (l .passed) fits e₁ e₂ e₃ e₄ (c .before .are-digits .ensures .if-false (not-true _ (c .if3 .taken)));
       },
@@ -165,7 +166,7 @@ returns-4 c =
       record {
         whole = l .inv .0;
         within = l .inv .1;
-        place = l .inv .2;
+        fits = l .inv .2;
         digits = l .inv .4;
         most = λ begins near. absurd (omega arith);
       },

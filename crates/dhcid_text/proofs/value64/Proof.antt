@@ -1,6 +1,6 @@
 use native.Mathlib.Omega.{arith}
 use Rattle.base.proofs.Fill.{looked-up}
-use Rattle.dhcid_text.specs.DhcidReading.{value64}
+use Rattle.dhcid_text.specs.Base64.{value64}
 use borrow.Author.Needs.{needs}
 use Rattle.dhcid_text.proofs.value64.Statement.{statement}
 use Rattle.dhcid_text.proofs.value64.Tie as tie

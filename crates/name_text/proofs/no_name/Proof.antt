@@ -1,5 +1,5 @@
 use mathlib.Core.Path.{refl}
-use Rattle.name.specs.Name.{padded}
+use Rattle.base.specs.Bytes.{padded}
 use Rattle.name.specs.Promise.{noName}
 use Rattle.name_text.proofs.no_name.Statement.{statement}
 use Rattle.name_text.proofs.no_name.Tie as tie

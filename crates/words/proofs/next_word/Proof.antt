@@ -6,7 +6,7 @@ use lib.ListN.{length, drop}
 use borrow.Author.Needs.{needs}
 use borrow.Author.Tests.{not-true, not-false}
 use Rattle.grammar.specs.Listing.{blank, lineEnd, opening, closing, notAllowed, outside, inside}
-use Rattle.grammar.proofs.Scan.{plain, scan}
+use Rattle.grammar.specs.Scan.{plain, scan}
 use Rattle.words.specs.NextIs.{kindMeant, depthOf}
 use Rattle.words.proofs.PieceLaws.{at-byte, at-comment, at-word, at-text-end}
 use Rattle.words.proofs.next_word.Statement.{statement}

@@ -6,11 +6,11 @@ use borrow.Author.Needs.{needs}
 use Rattle.text.proofs.digit.digit_value.Statement.{statement}
 use Rattle.text.proofs.digit.digit_value.Tie as tie
 
-sub-result : tie.Need-sub-result
-sub-result c = search needs
+add-result : tie.Need-add-result
+add-result c = search needs
 
-sub-result-2 : tie.Need-sub-result-2
-sub-result-2 c = search needs
+add-result-2 : tie.Need-add-result-2
+add-result-2 c = search needs
 
 returns : tie.Need-returns
 returns c =
@@ -51,8 +51,8 @@ pub digit-value-spec : {M : Type 1} → statement M
 digit-value-spec =
     tie.close
     (tie.spec
-    sub-result
-    sub-result-2
+    add-result
+    add-result-2
     returns
     returns-2
     returns-3

@@ -1,7 +1,7 @@
--- The readers of an A's and an AAAA's data: they decide which bytes a word spells. Both read numbers with a separator between them, byte by
--- byte, as the relation From of text has it. Assumes nothing.
+-- The readers of an A's and an AAAA's data (specs/AddressReader.antt) find just the bytes that a word spells. Both read numbers with a separator between
+-- them, as the relation From of text has it. Assumes nothing.
 use Prim.Native.Nat.{ℕ, zero, suc, _+_, _*_, _≤_}
-use mathlib.Core.Bool.{Bool, true, false, cond, _&&_, _||_}
+use mathlib.Core.Bool.{Bool, true, false, _&&_, _||_}
 use mathlib.Core.Path.{_≡_, refl, sym, ap, subst, _∙_}
 use mathlib.Core.Option.{Option, some, bind, bind-eq-some-iff, map-eq-some-iff, Option·map, Option·some-injective}
 use mathlib.Core.List.{List, [], _∷_}
@@ -15,9 +15,12 @@ use Rattle.address.specs.Address.{SpellsA, SpellsAAAA}
 use Rattle.text.specs.Digits.{digitValue}
 use Rattle.text.specs.Field.{Fields, Usable, Allowed}
 use Rattle.text.specs.declared.field.Form.{Form}
-use Rattle.address.proofs.AddressLaws.{octets, groups, octets-usable, groups-usable, a-fields, fields-a, aaaa-fields, fields-aaaa}
+use Rattle.address.specs.Forms.{octets, groups}
+use Rattle.address.proofs.AddressLaws.{octets-usable, groups-usable, a-fields, fields-a, aaaa-fields, fields-aaaa}
 use Rattle.text.proofs.FieldLaws.{From, fields-from, from-is-fields}
-use Rattle.grammar.proofs.Deciding.{Reads, provided, provided-is}
+use Rattle.grammar.specs.Deciding.{provided}
+use Rattle.grammar.specs.AddressReader.{isAllowed, fieldsOf, numbersOf, aOf, aaaaOf}
+use Rattle.grammar.proofs.Deciding.{Reads, provided-is}
 
 -- the test of a leading zero: none in a number of more than one digit, unless the form has such
 no-lead : (v n : ℕ) (zeros : Bool) → (zeros ≡ false → 1 ≤ n → 1 ≤ v) → (zeros || eqb n 0 || leb 1 v) ≡ true
@@ -26,32 +29,15 @@ no-lead v zero false h = refl
 no-lead v (suc n) false h = ap (λ (b : Bool). b || leb 1 v) (ne-eqb (suc n) 0 (omega arith)) ∙ le-leb 1 v (h refl (omega arith))
 
 module _ (f : Form) where
-  -- the test of text's Allowed: a field with the number v and n digits so far may have a digit of value d more
-  abbrev pub isAllowed : ℕ → ℕ → ℕ → Bool
-  isAllowed v n d = ltb d (f .base) && ltb n (f .most) && (f .«leading_zeros» || eqb n 0 || leb 1 v) && leb (v * f .base + d) (f .greatest)
-
-  -- the numbers that a text goes on to, if it does, from the middle of a field with the number v of n digits: From as a function. Of the two
-  -- answers that are bound by `let` only the one that the byte asks for is computed
-  unfoldable pub fieldsOf : ℕ → ℕ → List ℕ → Option (List ℕ)
-  fieldsOf v n [] = provided (leb 1 n) (some (v ∷ []))
-  fieldsOf v n (x ∷ t) =
-      let next = Option·map (λ (ns : List ℕ). v ∷ ns) (fieldsOf 0 0 t) in
-      let further = fieldsOf (v * f .base + digitValue x) (n + 1) t in
-      cond (eqb x (f .separator)) (provided (leb 1 n) next) (provided (isAllowed v n (digitValue x)) further)
-
-  -- the numbers that a word is, if it is as many of them as the form wants: Fields as a function
-  unfoldable pub numbersOf : List ℕ → Option (List ℕ)
-  numbersOf w = bind (fieldsOf 0 0 w) (λ ns. provided (eqb (length ns) (f .count)) (some ns))
-
   -- ---- the test of a digit
 
   module _ (v n d : ℕ) where
-    allowed-test : Allowed f v n d → isAllowed v n d ≡ true
+    allowed-test : Allowed f v n d → isAllowed f v n d ≡ true
     allowed-test a =
         let small : leb (v * f .base + d) (f .greatest) ≡ true = le-leb (v * f .base + d) (f .greatest) (a .small) in
         λ i. lt-ltb d (f .base) (a .digit) i && lt-ltb n (f .most) (a .room) i && no-lead v n (f .«leading_zeros») (a .leading) i && small i
 
-    test-allowed : isAllowed v n d ≡ true → Allowed f v n d
+    test-allowed : isAllowed f v n d ≡ true → Allowed f v n d
     test-allowed e =
         let digit : Bool = ltb d (f .base) in
         let room : Bool = ltb n (f .most) in
@@ -69,7 +55,7 @@ module _ (f : Form) where
 
   -- ---- what a text goes on to is found
 
-  found : {v n : ℕ} {t ns : List ℕ} → From f v n t ns → fieldsOf v n t ≡ some ns
+  found : {v n : ℕ} {t ns : List ℕ} → From f v n t ns → fieldsOf f v n t ≡ some ns
   unfolding fieldsOf provided
   found {n} (From.last digits) = rw (le-leb 1 n digits)
   found {n} (From.next {x} e digits h) = rw (eq-eqb x (f .separator) e, le-leb 1 n digits, found h)
@@ -78,25 +64,25 @@ module _ (f : Form) where
   -- ---- what is found is what the text goes on to
 
   -- one byte: the separator, or a digit
-  module _ (x v n : ℕ) (t ns : List ℕ) (rest : (v n : ℕ) (ns : List ℕ) → fieldsOf v n t ≡ some ns → From f v n t ns) where
-    was-next : x ≡ f .separator → provided (leb 1 n) (Option·map (λ (ns : List ℕ). v ∷ ns) (fieldsOf 0 0 t)) ≡ some ns → From f v n (x ∷ t) ns
+  module _ (x v n : ℕ) (t ns : List ℕ) (rest : (v n : ℕ) (ns : List ℕ) → fieldsOf f v n t ≡ some ns → From f v n t ns) where
+    was-next : x ≡ f .separator → provided (leb 1 n) (Option·map (λ (ns : List ℕ). v ∷ ns) (fieldsOf f 0 0 t)) ≡ some ns → From f v n (x ∷ t) ns
     was-next e q =
         let through = provided-is q in
-        let tail = map-eq-some-iff (λ (ns : List ℕ). v ∷ ns) (fieldsOf 0 0 t) .0 (through .1) in
+        let tail = map-eq-some-iff (λ (ns : List ℕ). v ∷ ns) (fieldsOf f 0 0 t) .0 (through .1) in
         subst (From f v n (x ∷ t)) (tail .2) (From.next e (leb-true 1 n (through .0)) (rest 0 0 (tail .0) (tail .1)))
 
-    was-digit : (x ≡ f .separator → ⊥) → provided (isAllowed v n (digitValue x)) (fieldsOf (v * f .base + digitValue x) (n + 1) t) ≡ some ns
+    was-digit : (x ≡ f .separator → ⊥) → provided (isAllowed f v n (digitValue x)) (fieldsOf f (v * f .base + digitValue x) (n + 1) t) ≡ some ns
         → From f v n (x ∷ t) ns
     was-digit ne q =
         let through = provided-is q in
         From.digit ne (test-allowed v n (digitValue x) (through .0)) (rest (v * f .base + digitValue x) (n + 1) ns (through .1))
 
-    was-byte : (b : Bool) → eqb x (f .separator) ≡ b → fieldsOf v n (x ∷ t) ≡ some ns → From f v n (x ∷ t) ns
+    was-byte : (b : Bool) → eqb x (f .separator) ≡ b → fieldsOf f v n (x ∷ t) ≡ some ns → From f v n (x ∷ t) ns
     unfolding fieldsOf
     was-byte true z q = was-next (eqb-true x (f .separator) z) (rw z at q)
     was-byte false z q = was-digit (eqb-false x (f .separator) z) (rw z at q)
 
-  goes : (t : List ℕ) (v n : ℕ) (ns : List ℕ) → fieldsOf v n t ≡ some ns → From f v n t ns
+  goes : (t : List ℕ) (v n : ℕ) (ns : List ℕ) → fieldsOf f v n t ≡ some ns → From f v n t ns
   goes [] v n ns q =
       let end : provided (leb 1 n) (some (v ∷ [])) ≡ some ns = unfold fieldsOf in q in
       let through = provided-is end in
@@ -106,23 +92,19 @@ module _ (f : Form) where
   -- ---- the numbers of a word, both ways
 
   module _ (usable : Usable f) where
-    numbers-found : (w ns : List ℕ) → Fields f w ns → numbersOf w ≡ some ns
+    numbers-found : (w ns : List ℕ) → Fields f w ns → numbersOf f w ≡ some ns
     unfolding numbersOf bind provided
     numbers-found w ns h = rw (found (fields-from f usable w ns h), eq-eqb (length ns) (f .count) (h .count))
 
-    numbers-are : (w ns : List ℕ) → numbersOf w ≡ some ns → Fields f w ns
+    numbers-are : (w ns : List ℕ) → numbersOf f w ≡ some ns → Fields f w ns
     unfolding numbersOf
     numbers-are w ns q =
-        let all = bind-eq-some-iff (fieldsOf 0 0 w) (λ ns. provided (eqb (length ns) (f .count)) (some ns)) .0 q in
+        let all = bind-eq-some-iff (fieldsOf f 0 0 w) (λ ns. provided (eqb (length ns) (f .count)) (some ns)) .0 q in
         let through = provided-is (all .2) in
         subst (Fields f w) (Option·some-injective (all .0) ns (through .1))
         (from-is-fields f usable w (all .0) (goes w 0 0 (all .0) (all .1)) (eqb-true (length (all .0)) (f .count) (through .0)))
 
 -- ---- addresses
-
--- the four bytes that a word spells as an A's data, if it does
-unfoldable pub aOf : List ℕ → Option (List ℕ)
-aOf w = numbersOf octets w
 
 pub a-reads : Reads aOf SpellsA
 unfolding aOf
@@ -131,10 +113,6 @@ a-reads =
       finds = λ w bs s. numbers-found octets octets-usable w bs (a-fields w bs s);
       is = λ w bs q. fields-a w bs (numbers-are octets octets-usable w bs q);
     }
-
--- the sixteen bytes that a word spells as an AAAA's data, if it does
-unfoldable pub aaaaOf : List ℕ → Option (List ℕ)
-aaaaOf w = Option·map (inBytes 2) (numbersOf groups w)
 
 pub aaaa-reads : Reads aaaaOf SpellsAAAA
 unfolding aaaaOf

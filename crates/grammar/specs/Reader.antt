@@ -1,5 +1,6 @@
--- What a text comes to, and what a call answers, found by functions. No definition of this crate's specs/ cites them (other crates' promises do):
--- proofs/ReaderLaws.antt proves that they find just what specs/ says, and that every text comes to something.
+-- What a text comes to, and what a call answers, found by functions. They find what Listing.antt, Faults.antt and Outcome.antt say, and every text comes
+-- to something (proofs/ReaderLaws.antt). A reader of the grammar need not know them: no definition of meaning cites them; the promises of the crates that
+-- read do.
 use Prim.Native.Nat.{ℕ, zero, suc, _+_, _-_}
 use mathlib.Core.Bool.{cond}
 use mathlib.Core.List.{List, [], _∷_}
@@ -8,8 +9,8 @@ use lib.ListN.{length}
 use Rattle.base.specs.Refusal.{listingLong, entryShape, rowShort}
 use Rattle.grammar.specs.Listing.{isWordByte, begins, outside, ResourceRecord}
 use Rattle.grammar.specs.Outcome.{Outcome, accepted, refused}
-use Rattle.grammar.proofs.Scan.{plain, Ending, atEnd, atLine, atFault, scan}
-use Rattle.grammar.proofs.Content.{Content, nothing, one, fault, contentOf}
+use Rattle.grammar.specs.Scan.{plain, Ending, atEnd, atLine, atFault, scan}
+use Rattle.grammar.specs.Content.{Content, nothing, one, fault, contentOf}
 
 -- the records of the whole text; or those before the first faulty entry, its number and its offset
 pub data Verdict : Type 0 where

@@ -1,8 +1,8 @@
--- The words of an entry and its end, found by a function that goes over the text once, byte by byte. No definition of this crate's specs/ cites it (other
--- crates' promises do): proofs/ScanLaws.antt proves that it finds just what specs/Listing.antt and specs/Faults.antt say.
+-- The words of an entry and its end, found by a function that goes over the text once, byte by byte. It finds what Listing.antt and Faults.antt say
+-- (proofs/ScanLaws.antt), and a reader of the grammar need not know it: no definition of meaning cites it; the promises of the crates that read do.
 use Prim.Native.Nat.{ℕ}
 use mathlib.Core.Bool.{Bool, true, false}
-use mathlib.Core.List.{List, [], _∷_}
+use mathlib.Core.List.{List, [], _∷_, _++_}
 use Rattle.grammar.specs.Listing.{Kind, blank, lineEnd, opening, closing, semicolon, wordByte, notAllowed, kindOf, isWordByte, begins, Depth, outside, inside}
 
 -- whether a comment is open
@@ -97,3 +97,7 @@ atTextEnd inside = atFault
 unfoldable pub scan : Mode → Depth → List ℕ → Laid
 scan m d [] = record { words = []; ending = atTextEnd d }
 scan m d (b ∷ t) = put (act m d (kindOf b)) b t (scan (modeAfter m (kindOf b)) (depthAfter m d (kindOf b)) t)
+
+-- with words before
+abbrev pub preceded : List (List ℕ) → Laid → Laid
+preceded vs r = record { words = vs ++ r .words; ending = r .ending }

@@ -1,14 +1,12 @@
--- The bytes that the words of a DHCID record's data spell, computed: for each of the two forms a guess at the bytes, and a test of the guess. The
--- guess at base64 is tested by encoding it again, so that it need be right only for what is base64. Assumes nothing.
+-- The reader of a DHCID record's data (specs/DhcidReader.antt) finds just the bytes that its words spell. Assumes nothing.
 use Prim.Native.Nat.{ℕ, _+_, _*_, _/_, _%_, _<_}
-use mathlib.Core.Bool.{Bool, true}
+use mathlib.Core.Bool.{true}
 use mathlib.Core.Path.{_≡_, refl, sym, ap, subst, _∙_}
 use mathlib.Core.Logic.{inl, inr, ⊎-elim}
 use mathlib.Core.Option.{Option, none, some, Option·some-injective, Option·none-ne-some, orElse}
 use mathlib.Core.List.{List, [], _∷_}
 use native.Mathlib.Nat.{add-zero}
 use native.Mathlib.Omega.{arith}
-use lib.Dec.{eqb, ltb}
 use lib.ListN.{length, take, length-append}
 use borrow.Author.Tests.{eqb-true, eq-eqb, lt-ltb, ltb-true}
 use Rattle.base.specs.Bytes.{eqBytes}
@@ -17,21 +15,16 @@ use Rattle.base.specs.Logic.{Every, Pairwise}
 use Rattle.base.proofs.DhcidLaws.{dhcid-length}
 use Rattle.base.proofs.Tests.{eqBytes-true, eq-eqBytes}
 use Rattle.text.specs.Digits.{digitValue}
-use Rattle.dhcid_text.specs.Dhcid.{digit64, base64, joined, HexByte, Generic, SpellsDhcid}
-use Rattle.dhcid_text.specs.DhcidReading.{value64, marker, thirtyFive}
+use Rattle.dhcid_text.specs.Dhcid.{digit64, base64, joined, HexByte, Generic, SpellsDhcid, marker, thirtyFive}
+use Rattle.dhcid_text.specs.Base64.{value64}
 use Rattle.dhcid_text.proofs.Base64Laws.{value-digit}
 use Rattle.dhcid_text.proofs.HexLaws.{hex-byte, digits-pairs, same-pairs}
 use Rattle.dhcid_text.proofs.Theorems.{forms-apart}
-use Rattle.grammar.proofs.Deciding.{Reads, provided, provided-by, provided-is, all, all-true, every-all}
+use Rattle.grammar.specs.Deciding.{provided}
+use Rattle.grammar.specs.DhcidReader.{isByte, tested, threes, unbase64, base64Of, isEven, isHex, unhex, genericOf, dhcidOf}
+use Rattle.grammar.proofs.Deciding.{Reads, provided-by, provided-is, all-true, every-all}
 
 -- ---- what either form asks of the bytes
-
-abbrev pub isByte : ℕ → Bool
-isByte b = ltb b 256
-
--- a guess bs itself, if it is bytes and passes refusal 15's test
-unfoldable pub tested : List ℕ → Option (List ℕ)
-tested bs = provided (all isByte bs) (provided (wellFormed bs) (some bs))
 
 -- what passes, as a property
 record Tested (bs : List ℕ) : Type 0 where
@@ -51,23 +44,6 @@ tested-is bs cs e =
     (same, subst Tested same (record { bytes = all-true isByte (λ b l. ltb-true b 256 l) bs (h .0); test = k .0 }))
 
 -- ---- base64
-
--- three bytes for each four characters. An = is read like the rest, so where it fills up a group the bytes go on past those that were encoded
-unfoldable pub threes : List ℕ → List ℕ
-threes [] = []
-threes (p ∷ []) = []
-threes (p ∷ q ∷ []) = []
-threes (p ∷ q ∷ r ∷ []) = []
-threes (p ∷ q ∷ r ∷ s ∷ t) =
-    (value64 p * 4 + value64 q / 16) ∷ (value64 q % 16 * 16 + value64 r / 4) ∷ (value64 r % 4 * 64 + value64 s) ∷ threes t
-
--- a guess at the 35 bytes that t is the base64 of
-unfoldable pub unbase64 : List ℕ → List ℕ
-unbase64 t = take 35 (threes t)
-
--- the bytes that t is the base64 of
-unfoldable pub base64Of : List ℕ → Option (List ℕ)
-base64Of t = let bs = unbase64 t in provided (eqBytes t (base64 bs)) (tested bs)
 
 -- each byte of a group stands in two digits, together with the bits x, y or z of the bytes beside it
 first-byte : (a y : ℕ) → a < 256 → y < 16 → value64 (digit64 (a / 4)) * 4 + value64 (digit64 (a % 4 * 16 + y)) / 16 ≡ a
@@ -117,26 +93,6 @@ base64-is t bs e =
     (eqBytes-true t (base64 (unbase64 t)) (h .0) ∙ ap base64 (k .0), k .1)
 
 -- ---- the generic form
-
-abbrev pub isEven : List ℕ → Bool
-isEven w = eqb (length w % 2) 0
-
-abbrev pub isHex : ℕ → Bool
-isHex x = ltb (digitValue x) 16
-
--- the byte of each two hexadecimal digits
-unfoldable pub unhex : List ℕ → List ℕ
-unhex [] = []
-unhex (x ∷ []) = []
-unhex (x ∷ y ∷ t) = (digitValue x * 16 + digitValue y) ∷ unhex t
-
--- the bytes that the words spell in the generic form
-unfoldable pub genericOf : List (List ℕ) → Option (List ℕ)
-genericOf [] = none
-genericOf (m ∷ []) = none
-genericOf (m ∷ n ∷ ds) =
-    let t = joined ds in
-    provided (eqBytes m marker) (provided (eqBytes n thirtyFive) (provided (all isEven ds) (provided (all isHex t) (tested (unhex t)))))
 
 -- the digits t are pairs that spell the bytes bs
 record Paired (t bs : List ℕ) : Type 0 where
@@ -194,10 +150,6 @@ generic-is (m ∷ n ∷ ds) bs e =
     (record { digits = ds; words = λ i. first i ∷ second i ∷ ds; even = even; pairs = read .pairs; all = read .cut; bytes = bytes }, h₅ .1)
 
 -- ---- both forms
-
--- the 35 bytes that the words of a DHCID record's data spell, in base64 or in the generic form
-unfoldable pub dhcidOf : List (List ℕ) → Option (List ℕ)
-dhcidOf ws = orElse (base64Of (joined ws)) (genericOf ws)
 
 -- what is read in one form is spelled
 in-base64 : (ws : List (List ℕ)) (bs : List ℕ) → base64Of (joined ws) ≡ some bs → SpellsDhcid ws bs

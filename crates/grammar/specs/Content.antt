@@ -1,5 +1,5 @@
--- What the words of an entry come to, found by functions. No definition of this crate's specs/ cites them (other crates' promises do):
--- proofs/ContentLaws.antt proves that they find just what specs/Listing.antt and specs/Faults.antt say.
+-- What the words of an entry come to, found by functions. They find what Listing.antt and Faults.antt say (proofs/ContentLaws.antt), and a reader of the
+-- grammar need not know them: no definition of meaning cites them; the promises of the crates that read do.
 use Prim.Native.Nat.{ℕ}
 use mathlib.Core.Bool.{Bool, false, cond}
 use mathlib.Core.List.{List, [], _∷_, map}
@@ -8,9 +8,9 @@ use Rattle.base.specs.Bytes.{ascii, eqBytes}
 use Rattle.base.specs.Refusal.{entryOwner, entryType, entryData}
 use Rattle.name.specs.Label.{lower}
 use Rattle.grammar.specs.Listing.{RecordType, mnemonic, ResourceRecord}
-use Rattle.grammar.proofs.OwnerReader.{ownerOf}
-use Rattle.grammar.proofs.AddressReader.{aOf, aaaaOf}
-use Rattle.grammar.proofs.DhcidReader.{dhcidOf}
+use Rattle.grammar.specs.OwnerReader.{ownerOf}
+use Rattle.grammar.specs.AddressReader.{aOf, aaaaOf}
+use Rattle.grammar.specs.DhcidReader.{dhcidOf}
 
 -- no record, a record, or the first fault by number
 pub data Content : Type 0 where

@@ -1,6 +1,6 @@
--- The reader of an owner: it decides whether a word is a proper name in text, and answers that name in canonical wire form. Assumes nothing.
+-- The reader of an owner (specs/OwnerReader.antt) finds just the names that a word spells. Assumes nothing.
 use Prim.Native.Nat.{ℕ, _+_, _≤_}
-use mathlib.Core.Bool.{Bool, true, _&&_}
+use mathlib.Core.Bool.{true, _&&_}
 use mathlib.Core.Path.{_≡_, refl, sym, ap, _∙_}
 use mathlib.Core.Option.{Option, some, Option·some-injective}
 use mathlib.Core.List.{List, [], _∷_}
@@ -11,20 +11,15 @@ use borrow.Author.Tests.{le-leb, leb-true}
 use Rattle.base.specs.Logic.{Every}
 use Rattle.base.proofs.Tests.{and-left, and-right}
 use Rattle.name.specs.Label.{Label}
-use Rattle.name.specs.Name.{wire, text, Spells, canonical}
+use Rattle.name.specs.Name.{wire, text, SpellsName, canonical}
 use Rattle.name.proofs.NameLaws.{length-text, canonical-wire}
-use Rattle.name.proofs.TextLaws.{lead, shifted, valid, text-valid, text-shifted, valid-rest}
+use Rattle.name.specs.Promise.{lead}
+use Rattle.name.specs.TextTest.{shifted, valid}
+use Rattle.name.proofs.TextLaws.{text-valid, text-shifted, valid-rest}
 use Rattle.name.proofs.ReadingLaws.{too-long, no-first-label}
 use Rattle.grammar.specs.Listing.{Owner}
-use Rattle.grammar.proofs.Deciding.{Reads, provided, provided-by, provided-is}
-
--- the test of a word: not too long, with a first label, and labels of the right bytes and lengths
-abbrev pub isOwner : List ℕ → Bool
-isOwner w = leb (length w) 254 && leb 1 (lead w) && valid w
-
--- the canonical wire form of the name that the word is in text, if it is one
-unfoldable pub ownerOf : List ℕ → Option (List ℕ)
-ownerOf w = provided (isOwner w) (some (lead w ∷ shifted w))
+use Rattle.grammar.specs.OwnerReader.{isOwner, ownerOf}
+use Rattle.grammar.proofs.Deciding.{Reads, provided-by, provided-is}
 
 -- ---- a name is found
 
@@ -37,12 +32,12 @@ module _ (w : List ℕ) where
     ap (λ (t : List ℕ). lead t ∷ shifted t) e ∙ text-shifted l ls hl h ∙ sym (canonical-wire (l ∷ ls) (Every.more hl h)),
   )
 
-  word-spelled : (n : List ℕ) → Spells w n → (valid w ≡ true) × (lead w ∷ shifted w ≡ canonical n)
+  word-spelled : (n : List ℕ) → SpellsName w n → (valid w ≡ true) × (lead w ∷ shifted w ≡ canonical n)
   word-spelled n s =
       let both = spelled (s .labels) (s .name .some) (s .name .labels) (s .word) in
       (both .0, both .1 ∙ sym (ap canonical (s .form)))
 
-  passes : (n : List ℕ) → Spells w n → isOwner w ≡ true
+  passes : (n : List ℕ) → SpellsName w n → isOwner w ≡ true
   passes n s =
       let short : leb (length w) 254 ≡ true = le-leb (length w) 254 (omega (arith, too-long w n s)) in
       let first : leb 1 (lead w) ≡ true = le-leb 1 (lead w) (omega (arith, no-first-label w n s)) in
@@ -56,7 +51,7 @@ finds w n o =
 
 -- ---- what is found is a name
 
-passed-spells : (w : List ℕ) → isOwner w ≡ true → (n : List ℕ) × Spells w n
+passed-spells : (w : List ℕ) → isOwner w ≡ true → (n : List ℕ) × SpellsName w n
 passed-spells w e =
     let two = and-left (leb (length w) 254 && leb 1 (lead w)) (valid w) e in
     let short : length w ≤ 254 = leb-true (length w) 254 (and-left (leb (length w) 254) (leb 1 (lead w)) two) in
