@@ -9,19 +9,22 @@ use lib.Dec.{eqb}
 use native.Mathlib.Nat.{add-sub-of-le}
 use lib.ListN.{length, take, drop, replicate, length-replicate, replicate-append-replicate}
 use borrow.Author.Tests.{eq-eqb, ne-eqb}
-use Rattle.text.specs.Reading.{Answers}
+use Rattle.base.specs.Bytes.{zeroFilled}
+use Rattle.text.specs.Reading.{Decodes}
 use Rattle.address.specs.Address.{SpellsA, SpellsAAAA}
 use Rattle.dhcid_text.specs.Dhcid.{SpellsDhcid}
-use Rattle.dhcid_text.specs.DhcidReading.{zeroFilled, After}
+use Rattle.dhcid_text.specs.DhcidReading.{After}
 use Rattle.dhcid_text.specs.declared.DhcidWords.{DhcidWords}
 use Rattle.dhcid_text.proofs.DhcidLaws.{all-stored}
 use Rattle.grammar.proofs.Deciding.{Reads, none-found}
-use Rattle.grammar.proofs.Scan.{plain, scan}
-use Rattle.grammar.proofs.AddressReader.{aOf, aaaaOf, a-reads, aaaa-reads}
-use Rattle.grammar.proofs.DhcidReader.{dhcidOf, dhcid-reads}
-use Rattle.grammar.proofs.Content.{onlyWord}
+use Rattle.grammar.specs.Scan.{plain, scan}
+use Rattle.grammar.specs.AddressReader.{aOf, aaaaOf}
+use Rattle.grammar.proofs.AddressReaderLaws.{a-reads, aaaa-reads}
+use Rattle.grammar.specs.DhcidReader.{dhcidOf}
+use Rattle.grammar.proofs.DhcidReaderLaws.{dhcid-reads}
+use Rattle.grammar.specs.Content.{onlyWord}
 use Rattle.words.specs.NextIs.{depthOf, WordAt}
-use Rattle.entry.specs.Parts.{wordsAt, addressFor, rdataFor, Held, ifNone, DataAt}
+use Rattle.entry.specs.Parts.{wordsAt, addressFor, rdataFor, HeldData, ifNone, DataAt}
 use Rattle.entry.specs.declared.«data».Data.{Data}
 use Rattle.entry.proofs.NextLaws.{word-words, word-ends}
 
@@ -35,12 +38,12 @@ zeros k h =
     ∙ ap (λ (n : ℕ). replicate {A = ℕ} n 0) (add-sub-of-le h)
 
 module _ {A : Type 0} {f : A → Option (List ℕ)} {R : A → List ℕ → Type 0} (reads : Reads f R) (a : A) (at : ℕ) (d : Bool) where
-  pub held-by : (found : Bool) (bytes filled : List ℕ) → length bytes ≤ 35 → filled ≡ zeroFilled bytes → Answers (R a) found bytes
-      → Held (f a) (record { found = found; bytes = filled; at = at; inside = d })
-  held-by found bytes filled short e (Answers.yes-read is s) =
-      subst (λ (v : Option (List ℕ)). Held v (record { found = found; bytes = filled; at = at; inside = d })) (sym (reads .finds a bytes s)) (is, e)
-  held-by found bytes filled short e (Answers.none-read not never z) =
-      subst (λ (v : Option (List ℕ)). Held v (record { found = found; bytes = filled; at = at; inside = d })) (sym (none-found reads a never)) (not, e ∙ ap zeroFilled z ∙ zeros (length bytes) short)
+  pub held-by : (found : Bool) (bytes filled : List ℕ) → length bytes ≤ 35 → filled ≡ zeroFilled bytes → Decodes (R a) found bytes
+      → HeldData (f a) (record { found = found; bytes = filled; at = at; inside = d })
+  held-by found bytes filled short e (Decodes.yes-read is s) =
+      subst (λ (v : Option (List ℕ)). HeldData v (record { found = found; bytes = filled; at = at; inside = d })) (sym (reads .finds a bytes s)) (is, e)
+  held-by found bytes filled short e (Decodes.none-read not never z) =
+      subst (λ (v : Option (List ℕ)). HeldData v (record { found = found; bytes = filled; at = at; inside = d })) (sym (none-found reads a never)) (not, e ∙ ap zeroFilled z ∙ zeros (length bytes) short)
 
 -- ---- an address is the next word
 
@@ -61,7 +64,7 @@ module _ (t : List ℕ) (at : ℕ) (d : Bool) (k : ℕ) where
     abbrev word : List ℕ
     word = take (end - start) (drop start t)
 
-    pub an-a : k ≡ 1 → length bytes ≡ 4 → Answers (SpellsA word) found bytes → DataAt (addressFor k) t at d (record { found = found; bytes = filled; at = end; inside = d′ })
+    pub an-a : k ≡ 1 → length bytes ≡ 4 → Decodes (SpellsA word) found bytes → DataAt (addressFor k) t at d (record { found = found; bytes = filled; at = end; inside = d′ })
     an-a one four r =
         record {
           from = omega (arith, w .from, w .some);
@@ -72,7 +75,7 @@ module _ (t : List ℕ) (at : ℕ) (d : Bool) (k : ℕ) where
           found = ap (addressFor k) (word-words t at d w) ∙ ap (λ (b : Bool). cond b (onlyWord aOf (word ∷ wordsAt t end d′)) (onlyWord aaaaOf (word ∷ wordsAt t end d′))) (eq-eqb k 1 one) ∙ only-first aOf word (wordsAt t end d′);
         }
 
-    pub an-aaaa : (k ≡ 1 → ⊥) → length bytes ≡ 16 → Answers (SpellsAAAA word) found bytes → DataAt (addressFor k) t at d (record { found = found; bytes = filled; at = end; inside = d′ })
+    pub an-aaaa : (k ≡ 1 → ⊥) → length bytes ≡ 16 → Decodes (SpellsAAAA word) found bytes → DataAt (addressFor k) t at d (record { found = found; bytes = filled; at = end; inside = d′ })
     an-aaaa other sixteen r =
         record {
           from = omega (arith, w .from, w .some);
@@ -113,7 +116,7 @@ module _ (t : List ℕ) (at : ℕ) (d : Bool) where
               ∙ sym (append-assoc (h .before) (take (end - start) (drop start t) ∷ []) (wordsAt t end d″));
         }
 
-    pub all-read : wordsAt t i d′ ≡ [] → (found : Bool) (bytes : List ℕ) → length bytes ≡ 35 → ((ws : List (List ℕ)) → After ws s → Answers (SpellsDhcid ws) found bytes)
+    pub all-read : wordsAt t i d′ ≡ [] → (found : Bool) (bytes : List ℕ) → length bytes ≡ 35 → ((ws : List (List ℕ)) → After ws s → Decodes (SpellsDhcid ws) found bytes)
         → DataAt dhcidOf t at d (record { found = found; bytes = bytes; at = i; inside = d′ })
     all-read empty found bytes long says =
         let words : wordsAt t at d ≡ h .before = h .all ∙ ap (λ (ws : List (List ℕ)). h .before ++ ws) empty ∙ append-nil (h .before) in

@@ -16,10 +16,10 @@ use Rattle.name.specs.Label.{isUpper, lower}
 use Rattle.name.specs.Name.{canonical}
 use Rattle.grammar.specs.Listing.{RecordType, mnemonic, EitherCase}
 use Rattle.grammar.proofs.Deciding.{none-found}
-use Rattle.grammar.proofs.Content.{Headed, typeOf, typed, headOf}
+use Rattle.grammar.specs.Content.{Headed, typeOf, typed, headOf}
 use Rattle.grammar.proofs.ContentLaws.{type-reads, head-class, head-type}
 use Rattle.words.specs.NextIs.{WordAt}
-use Rattle.entry.specs.Parts.{typeNumber, wordsAt, HeadAt}
+use Rattle.entry.specs.Parts.{typeNumberIf, wordsAt, HeadAt}
 use Rattle.entry.specs.declared.head.Head.{Head}
 use Rattle.entry.proofs.NextLaws.{word-words, word-ends}
 
@@ -129,12 +129,12 @@ module _ (t : List ℕ) (at : ℕ) (d : Bool) where
     word = take (end - start) (drop start t)
 
     -- the word is the type, or no type
-    pub head-word : (head : List (List ℕ) → Option Headed) (r : ℕ) → head (word ∷ wordsAt t end d′) ≡ typed (word ∷ wordsAt t end d′) → r ≡ typeNumber (typeOf word)
+    pub head-word : (head : List (List ℕ) → Option Headed) (r : ℕ) → head (word ∷ wordsAt t end d′) ≡ typed (word ∷ wordsAt t end d′) → r ≡ typeNumberIf (typeOf word)
         → HeadAt head t at d (record { rtype = r; at = end; inside = d′ })
     head-word head r e is =
         record { from = omega (arith, w .from, w .some); within = w .within; ends = word-ends t at d w; type = typeOf word; is = is; found = ap head (word-words t at d w) ∙ e }
 
-    pub head-no-class : (r : ℕ) → (canonical word ≡ 105 ∷ 110 ∷ [] → ⊥) → r ≡ typeNumber (typeOf word) → HeadAt headOf t at d (record { rtype = r; at = end; inside = d′ })
+    pub head-no-class : (r : ℕ) → (canonical word ≡ 105 ∷ 110 ∷ [] → ⊥) → r ≡ typeNumberIf (typeOf word) → HeadAt headOf t at d (record { rtype = r; at = end; inside = d′ })
     head-no-class r never is = head-word headOf r (class-not word (wordsAt t end d′) never) is
 
     -- the word is the class, and the type follows

@@ -4,3 +4,7 @@ pub mod ShapeLaws
 pub mod DataLaws
 pub mod EntryLaws
 pub mod WordedLaws
+pub mod KnownLaws
+pub mod HeldLaws
+pub mod Examples
+pub mod Theorems

@@ -8,7 +8,7 @@ use native.Mathlib.Omega.{arith}
 use types.Run.{OneOf}
 use denote.Enum.Declared.{tagOf}
 use lib.ListN.{take, drop}
-use Rattle.grammar.proofs.Scan.{plain, atEnd, atFault, Laid, scan}
+use Rattle.grammar.specs.Scan.{plain, atEnd, atFault, Laid, scan}
 use Rattle.words.specs.NextIs.{depthOf, WordAt, LineAt, NextIs}
 use Rattle.words.specs.declared.Next.{Next}
 use Rattle.words.specs.declared.Next.the-variants

@@ -4,11 +4,11 @@ use mathlib.Core.Bool.{Bool, true, false}
 use mathlib.Core.Path.{_≡_, ap}
 use mathlib.Core.List.{List}
 use lib.ListN.{drop}
-use Rattle.grammar.proofs.Scan.{plain, Laid, scan}
+use Rattle.grammar.specs.Scan.{plain, Laid, scan}
 use Rattle.words.specs.NextIs.{depthOf, NextIs}
 use Rattle.words.specs.declared.Next.{Next}
 use Rattle.words.specs.declared.Next.the-variants
-use Rattle.entry.specs.EntryIs.{notAtFault}
+use Rattle.entry.specs.EntryAt.{notAtFault}
 use Rattle.entry.proofs.NextLaws.{line-is, end-is, fault-is}
 
 -- the rest of the text t, from at on at the depth d, has a right shape

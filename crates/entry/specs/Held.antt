@@ -3,20 +3,19 @@
 use Prim.Native.Nat.{ℕ}
 use mathlib.Core.List.{[]}
 use lib.ListN.{length}
-use Rattle.name.specs.Name.{padded}
-use Rattle.dhcid_text.specs.DhcidReading.{zeroFilled}
+use Rattle.base.specs.Bytes.{padded, zeroFilled}
 use Rattle.grammar.specs.Listing.{RecordType, ResourceRecord}
 use Rattle.entry.specs.declared.Record.{Record}
 
 -- the record types' numbers: RFC 1035 (A), RFC 3596 (AAAA), RFC 4701 (DHCID)
-abbrev pub number : RecordType → ℕ
-number RecordType.A = 1
-number RecordType.AAAA = 28
-number RecordType.DHCID = 49
+abbrev pub typeNumber : RecordType → ℕ
+typeNumber RecordType.A = 1
+typeNumber RecordType.AAAA = 28
+typeNumber RecordType.DHCID = 49
 
 -- the bytes of a record: the owner in canonical wire form in 255 bytes and the data in 35, each with zeros after it, the owner's length, and the type's number
 unfoldable pub held : ResourceRecord → Record
-held r = record { owner = padded (r .owner); «owner_len» = length (r .owner); rtype = number (r .rtype); rdata = zeroFilled (r .rdata) }
+held r = record { owner = padded (r .owner); «owner_len» = length (r .owner); rtype = typeNumber (r .rtype); rdata = zeroFilled (r .rdata) }
 
 -- all zeros
 unfoldable pub noRecord : Record

@@ -1,3 +1,4 @@
 pub mod Held
 pub mod Parts
-pub mod EntryIs
+pub mod EntryText
+pub mod EntryAt

@@ -10,8 +10,8 @@ use words::next_word;
 ghost use mathlib.Core.Path.{_≡_};
 ghost use Prim.Native.Nat.{_≤_};
 ghost use lib.ListN.{length};
-ghost use Rattle.dhcid_text.specs.DhcidReading.{zeroFilled};
-ghost use Rattle.grammar.proofs.DhcidReader.{dhcidOf};
+ghost use Rattle.base.specs.Bytes.{zeroFilled};
+ghost use Rattle.grammar.specs.DhcidReader.{dhcidOf};
 ghost use Rattle.entry.specs.Parts as spec;
 
 // Data that were read, or none, and then their bytes are zero; and how far the entry was read.

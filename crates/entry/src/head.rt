@@ -12,7 +12,7 @@ ghost use Prim.Native.Nat.{_≤_};
 ghost use lib.ListN.{length};
 ghost use Rattle.base.specs.Logic.{Decides};
 ghost use Rattle.name.specs.Name.{canonical};
-ghost use Rattle.grammar.proofs.Content.{typeOf, typed, headOf};
+ghost use Rattle.grammar.specs.Content.{typeOf, typed, headOf};
 ghost use Rattle.entry.specs.Parts as spec;
 
 // A record type, `NO_TYPE` where there is none, and how far the entry was read.
@@ -68,7 +68,7 @@ fn is_dhcid(word: &[u8]) -> bool
 
 // The type that a word names.
 fn type_of(word: &[u8]) -> u8
-    ensures { λ r. ⌜ r ≡ spec.typeNumber (typeOf (now (word .entry))) ⌝ }
+    ensures { λ r. ⌜ r ≡ spec.typeNumberIf (typeOf (now (word .entry))) ⌝ }
 {
     if is_a(word) {
         return TYPE_A;

@@ -14,10 +14,10 @@ ghost use mathlib.Core.Path.{_≡_};
 ghost use mathlib.Core.Bool.{false};
 ghost use Prim.Native.Nat.{_≤_};
 ghost use lib.ListN.{length, drop};
-ghost use Rattle.grammar.proofs.Scan.{plain, scan};
+ghost use Rattle.grammar.specs.Scan.{plain, scan};
 ghost use Rattle.words.specs.NextIs.{depthOf, WordAt};
 ghost use Rattle.entry.specs.Held.{noRecord};
-ghost use Rattle.entry.specs.EntryIs as spec;
+ghost use Rattle.entry.specs.EntryAt as spec;
 
 // The record types, by their numbers (RFC 1035, 3596 and 4701); 0 is none.
 pub const TYPE_A: u8 = 1;
@@ -123,7 +123,7 @@ fn faulty(text: &[u8], at: usize, inside: bool, number: u32) -> Entry
 // The entry at `at`, whose first word stands from `start` up to `end`.
 fn with_words(text: &[u8], at: usize, start: usize, end: usize, inside: bool) -> Entry
     requires { ⌜ WordAt (now text) at false start end inside ⌝ }
-    ensures { λ r. ⌜ spec.EntryIs (now (text .entry)) at r ⌝ }
+    ensures { λ r. ⌜ r ≡ spec.entryAt (now (text .entry)) at ⌝ }
 {
     let owner = from_text(&text[start..end]);
     if owner.len == 0 {
@@ -171,7 +171,7 @@ fn with_words(text: &[u8], at: usize, start: usize, end: usize, inside: bool) ->
 // The entry that begins at `at`.
 pub fn read_entry(text: &[u8], at: usize) -> Entry
     requires { ⌜ at ≤ length (now text) ⌝ }
-    ensures { λ r. ⌜ spec.EntryIs (now (text .entry)) at r ⌝ }
+    ensures { λ r. ⌜ r ≡ spec.entryAt (now (text .entry)) at ⌝ }
 {
     match next_word(text, at, false) {
         Next::Word { start, end, inside } => with_words(text, at, start, end, inside),

@@ -3,23 +3,22 @@ use Prim.Native.Nat.{ℕ, _+_, _-_, _≤_, _<_}
 use mathlib.Core.Bool.{Bool, true, false, true≢false}
 use mathlib.Core.Path.{_≡_, refl, sym, ap, subst, subst₂, _∙_}
 use mathlib.Core.List.{List, [], _∷_, map}
-use native.Mathlib.Nat.{add-sub-of-le}
+use native.Mathlib.Nat.{add-zero, add-sub-of-le}
 use native.Mathlib.Omega.{arith}
 use lib.ListN.{length, drop, drop-of-length-le}
 use lib.Seq.{drop-append-seam, drop-drop}
+use Rattle.base.specs.Refusal.{listingLong}
 use Rattle.base.proofs.Tests.{by-ltb}
 use Rattle.grammar.specs.Listing.{ResourceRecord, Records}
 use Rattle.grammar.specs.Faults.{ended, Refused}
-use Rattle.grammar.proofs.Reader.{Verdict, right, wrong, after, shifted, read}
+use Rattle.grammar.specs.Reader.{Verdict, right, wrong, after, shifted, read}
 use Rattle.grammar.proofs.ReaderLaws.{Comes, spelled, faulted, comes, comes-read}
-use Rattle.entry.specs.Held.{held}
-use Rattle.entry.proofs.EntryLaws.{empty}
-use Rattle.listing.specs.Reading.{limit, FoundIs, StepIs}
-use Rattle.listing.specs.declared.Found.{Found}
-use Rattle.listing.specs.declared.Found.the-variants as found
+use Rattle.entry.proofs.KnownLaws.{empty}
+use Rattle.listing.specs.Reading.{limit}
+use Rattle.listing.specs.Found.{told}
+use Rattle.listing.specs.Giving.{Last, end, refusal, Gives, too-long, whole, faulty, recordTold, lastTold, NextAnswer, Answers, Asked, answers}
 use Rattle.listing.specs.declared.Step.{Step}
 use Rattle.listing.proofs.SpellingLaws.{spells-by, refused-by}
-use Rattle.listing.specs.Giving.{Last, end, refusal, Gives, too-long, whole, faulty, Next, Answers, Asked, none, more, told, answers}
 
 -- ---- the last answer is one of the two
 
@@ -77,65 +76,62 @@ refused-again r =
     record {
       before = [];
       from = r .from;
-      cut = (λ i. drop (r .place i) (r .cut i)) ∙ drop-append-seam (ended (r .before)) (r .from);
+      cut = (λ i. drop (r .at i) (r .cut i)) ∙ drop-append-seam (ended (r .before)) (r .from);
       records = Records.none;
       faulty = r .faulty;
-      place = refl;
+      at = refl;
     }
 
 -- ---- a step
 
 module _ (t : List ℕ) (at : ℕ) (s : Step) where
-  -- the step is the next answer of what the verdict v on the text from at on tells
-  abbrev NextOf : Verdict → Type 0
-  NextOf v = Next t (recordsOf v) (lastOf at v) s
+  -- it is the next answer of something that has to be given, and nothing else has to be given
+  next-of : {qs : List ResourceRecord} {m : Last} → Gives t at qs m → NextAnswer t qs m s → Answers t at s
+  unfolding Answers
+  next-of g a rs l h =
+      let same = one-given t at g h in
+      subst₂ (λ (xs : List ResourceRecord) (k : Last). NextAnswer t xs k s) (same .0) (same .1) a
+
+  pub over-answers : limit < length t → told s ≡ lastTold (refusal listingLong 0) → Answers t at s
+  over-answers over e = next-of (too-long over) (e, too-long over)
 
   module _ (fits : length t ≤ limit) where
-    gives-record : (r : ResourceRecord) → s .found ≡ found.Record → s .«record» ≡ held r → at < s .next → (v : Verdict) → read (drop (s .next) t) ≡ v
-        → NextOf (after r (shifted (s .next - at) v))
-    gives-record r q h on (right rs) e = (q, h, whole fits (spells-by (drop (s .next) t) rs e))
-    gives-record r q h on (wrong rs n p) e =
+    -- the text from at on comes to v, of which the step is the next answer
+    next-by : {v : Verdict} → read (drop at t) ≡ v → NextAnswer t (recordsOf v) (lastOf at v) s → Answers t at s
+    next-by {v} e a = next-of (subst (λ (x : Verdict). Gives t at (recordsOf x) (lastOf at x)) e (comes-gives t at fits (comes (drop at t)))) a
+
+    gives-record : (r : ResourceRecord) → told s ≡ recordTold r → at < s .next → (v : Verdict) → read (drop (s .next) t) ≡ v
+        → NextAnswer t (recordsOf (after r (shifted (s .next - at) v))) (lastOf at (after r (shifted (s .next - at) v))) s
+    gives-record r q on (right rs) e = (q, whole fits (spells-by (drop (s .next) t) rs e))
+    gives-record r q on (wrong rs n p) e =
         let there : at + (s .next - at + p) ≡ s .next + p = omega arith in
-        (q, h, faulty fits (refused-by (drop (s .next) t) rs n p e) there)
+        (q, faulty fits (refused-by (drop (s .next) t) rs n p e) there)
 
-    gives-found : (f : Found) → s .found ≡ f → FoundIs t at f (s .«record») (s .next) → NextOf (read (drop at t))
-    gives-found found.Record q (r, h, on, w, e) = subst NextOf (sym e) (gives-record r q h on (read (drop (s .next) t)) refl)
-    gives-found found.End q (h, on, done, e) =
-        subst NextOf (sym e) (q, h, whole fits (spells-by (drop (s .next) t) [] (ap read (drop-of-length-le t done) ∙ empty)))
-    gives-found (found.Refused n offset) q (h, there, on, w, e) =
-        let back : at + (offset - at) ≡ s .next = omega arith in
-        let place : at + (offset - at) ≡ s .next + 0 = omega arith in
-        let same : drop (offset - at) (drop at t) ≡ drop (s .next) t = drop-drop (offset - at) at t ∙ ap (λ (i : ℕ). drop i t) back in
-        let again = subst (λ (l : List ℕ). Refused l [] n 0) same (refused-again (refused-by (drop at t) [] n (offset - at) e)) in
-        subst NextOf (sym e) (q ∙ ap (found.Refused n) (sym (add-sub-of-le on)), h, faulty fits again place)
+    pub record-answers : (r : ResourceRecord) → told s ≡ recordTold r → at < s .next → read (drop at t) ≡ after r (shifted (s .next - at) (read (drop (s .next) t))) → Answers t at s
+    record-answers r q on e = next-by e (gives-record r q on (read (drop (s .next) t)) refl)
 
-  -- something has to be given, and a step that keeps its promise is the next answer of it
-  given-next : StepIs t at s → (rs : List ResourceRecord) × (l : Last) × Gives t at rs l × Next t rs l s
-  given-next is =
-      by-ltb limit (length t)
-      (λ over. let e = is .over over in (_, _, too-long over, (ap (λ (x : Step). x .found) e, ap (λ (x : Step). x .«record») e, too-long over)))
-      (λ fits. (_, _, comes-gives t at fits (comes (drop at t)), gives-found fits (s .found) refl (is .found fits)))
+    pub end-answers : told s ≡ lastTold end → length t ≤ s .next → read (drop at t) ≡ right [] → Answers t at s
+    end-answers q done e = next-by e (q, whole fits (spells-by (drop (s .next) t) [] (ap read (drop-of-length-le t done) ∙ empty)))
 
-  -- and nothing else has to be given
-  pub answers-by : StepIs t at s → Answers t at s
-  unfolding Answers
-  answers-by is rs l g =
-      let x = given-next is in
-      let same = one-given t at (x .2) g in
-      subst₂ (λ (qs : List ResourceRecord) (m : Last). Next t qs m s) (same .0) (same .1) (x .3)
+    pub refusal-answers : (n : ℕ) → told s ≡ lastTold (refusal n (s .next)) → at ≤ s .next → read (drop at t) ≡ wrong [] n (s .next - at) → Answers t at s
+    refusal-answers n q on e =
+        let back : at + (s .next - at) ≡ s .next = add-sub-of-le on in
+        let same : drop (s .next - at) (drop at t) ≡ drop (s .next) t = drop-drop (s .next - at) at t ∙ ap (λ (i : ℕ). drop i t) back in
+        let again = subst (λ (l : List ℕ). Refused l [] n 0) same (refused-again (refused-by (drop at t) [] n (s .next - at) e)) in
+        next-by e (q ∙ ap (λ (p : ℕ). lastTold (refusal n p)) (sym back), faulty fits again (back ∙ sym (add-zero (s .next))))
 
 -- ---- asked again and again
 
 -- a step, and the steps from its offset on
-first-and-others : {t : List ℕ} {s : Step} {l : Last} (ss : List Step) (rs : List ResourceRecord) → Next t rs l s
+first-and-others : {t : List ℕ} (s : Step) {l : Last} (ss : List Step) (rs : List ResourceRecord) → NextAnswer t rs l s
     → ((qs : List ResourceRecord) → Gives t (s .next) qs l → map told ss ≡ answers (length ss) qs l) → map told (s ∷ ss) ≡ answers (length (s ∷ ss)) rs l
 unfolding answers
-first-and-others ss [] (q, h, g) others = λ i. record { found = q i; place = h i } ∷ others [] g i
-first-and-others ss (r ∷ rs) (q, h, g) others = λ i. record { found = q i; place = h i } ∷ others rs g i
+first-and-others s ss [] (q, g) others = λ i. q i ∷ others [] g i
+first-and-others s ss (r ∷ rs) (q, g) others = λ i. q i ∷ others rs g i
 
 -- the steps tell what has to be given
 pub asked : {t : List ℕ} {at : ℕ} {ss : List Step} → Asked t at ss → (rs : List ResourceRecord) (l : Last) → Gives t at rs l
     → map told ss ≡ answers (length ss) rs l
 unfolding answers Answers
-asked none rs l g = refl
-asked (more {ss = ss} a k) rs l g = first-and-others ss rs (a rs l g) (λ qs h. asked k qs l h)
+asked Asked.none rs l g = refl
+asked (Asked.more {s = s} {ss = ss} a k) rs l g = first-and-others s ss rs (a rs l g) (λ qs h. asked k qs l h)

@@ -1,7 +1,9 @@
 pub mod VerdictLaws
+pub mod SpellingLaws
+pub mod FoundLaws
+pub mod GivingLaws
 pub mod CheckLaws
 pub mod StepLaws
-pub mod SpellingLaws
-pub mod GivingLaws
 pub mod NextLaws
+pub mod OneLaws
 pub mod Theorems

@@ -1,16 +1,18 @@
 -- From what a text comes to, to what it spells or is refused with. Assumes nothing.
 use Prim.Native.Nat.{ℕ, _≤_}
-use mathlib.Core.Path.{_≡_, sym, ap, subst}
+use mathlib.Core.Path.{_≡_, sym, ap, subst, _∙_}
 use mathlib.Core.List.{List}
 use lib.ListN.{length}
 use Rattle.base.specs.Answer.{value}
-use Rattle.base.specs.declared.Answer.the-variants
+use Rattle.base.specs.declared.Answer.{Answer}
+use Rattle.base.specs.declared.Answer.the-variants.{Accepted}
 use Rattle.grammar.specs.Listing.{ResourceRecord, Spells}
 use Rattle.grammar.specs.Faults.{Refused}
 use Rattle.grammar.specs.Outcome.{Outcome, accepted, refused, Checked}
-use Rattle.grammar.proofs.Reader.{Verdict, right, wrong, read, check}
-use Rattle.grammar.proofs.ReaderLaws.{Comes, spelled, faulted, comes, checks, checked}
-use Rattle.listing.specs.Reading.{limit, counted}
+use Rattle.grammar.specs.Reader.{Verdict, right, wrong, read}
+use Rattle.grammar.proofs.ReaderLaws.{Comes, spelled, faulted, comes}
+use Rattle.grammar.proofs.Theorems.{one-check}
+use Rattle.listing.specs.Reading.{limit, counted, Checks}
 use Rattle.base.proofs.AnswerLaws.{accepted≢refused}
 
 -- a text that comes to a verdict
@@ -29,13 +31,17 @@ refused-by t rs n p e = go (comes-to t (wrong rs n p) e)
     go : Comes t (wrong rs n p) → Refused t rs n p
     go (faulted r) = r
 
--- what the check answers, and the definition of what is to be answered
-pub check-by : (t : List ℕ) (o : Outcome) → Checked limit t o → counted (check limit t) ≡ counted o
-check-by t o c = ap counted (checked c)
+-- ---- what the check answers is what the definition gives, and nothing else
 
-pub count-of : (t : List ℕ) (n : ℕ) → counted (check limit t) ≡ the-variants.Accepted n → (rs : List ResourceRecord) × Spells t rs × (length rs ≡ n) × (length t ≤ limit)
-count-of t n e = go (check limit t) (checks limit t) e
-  where
-    go : (o : Outcome) → Checked limit t o → counted o ≡ the-variants.Accepted n → (rs : List ResourceRecord) × Spells t rs × (length rs ≡ n) × (length t ≤ limit)
-    go (accepted rs) (Checked.whole h s) q = (rs, s, ap value q, h)
-    go (refused m p) c q = absurd (accepted≢refused (sym q))
+module _ (t : List ℕ) (a : Answer) (is : Checks t a) where
+  pub check-by : (o : Outcome) → Checked limit t o → a ≡ counted o
+  unfolding Checks
+  check-by o c = is .2 ∙ ap counted (one-check limit t (is .0) o (is .1) c)
+
+  pub count-of : (n : ℕ) → a ≡ Accepted n → (rs : List ResourceRecord) × Spells t rs × (length rs ≡ n) × (length t ≤ limit)
+  unfolding Checks
+  count-of n e = go (is .0) (is .1) (sym (is .2) ∙ e)
+    where
+      go : (o : Outcome) → Checked limit t o → counted o ≡ Accepted n → (rs : List ResourceRecord) × Spells t rs × (length rs ≡ n) × (length t ≤ limit)
+      go (accepted rs) (Checked.whole h s) q = (rs, s, ap value q, h)
+      go (refused m p) c q = absurd (accepted≢refused (sym q))

@@ -1,36 +1,41 @@
 -- The public theorems of `listing`: what its functions promise, said of the definitions of `grammar` alone. Assumes nothing.
 use Prim.Native.Nat.{ℕ, _≤_, _<_}
 use mathlib.Core.Path.{_≡_, sym}
+use mathlib.Core.Logic.{_↔_}
 use mathlib.Core.List.{List, [], map}
 use native.Mathlib.Nat.{zero-add}
 use lib.ListN.{length}
+use Rattle.base.specs.declared.Answer.{Answer}
 use Rattle.base.specs.declared.Answer.the-variants.{Accepted, Refused}
 use Rattle.base.specs.Refusal.{listingLong}
 use Rattle.grammar.specs.Listing.{ResourceRecord, Spells}
 use Rattle.grammar.specs.Faults
 use Rattle.grammar.specs.Outcome.{Checked}
-use Rattle.grammar.proofs.Reader.{check}
-use Rattle.listing.specs.Reading.{limit, counted, StepIs}
-use Rattle.listing.specs.Giving.{Last, end, refusal, Gives, Answers, Asked, told, answers}
+use Rattle.listing.specs.Reading.{limit, Checks}
+use Rattle.listing.specs.Found.{told}
+use Rattle.listing.specs.Giving.{Last, end, refusal, Gives, Answers, StepIs, Asked, answers}
+use Rattle.listing.specs.declared.Found.the-variants as found
 use Rattle.listing.specs.declared.Step.{Step}
 use Rattle.listing.proofs.SpellingLaws.{check-by, count-of}
-use Rattle.listing.proofs.GivingLaws.{some-given, one-given, answers-by, asked}
+use Rattle.listing.proofs.GivingLaws.{some-given, one-given, asked}
+use Rattle.listing.proofs.OneLaws.{refused-exactly, step-one}
 
 -- ---- the check
 
--- a text within the limit that spells a list is accepted, with the list's length; and nothing else is
-pub accepted : (t : List ℕ) (rs : List ResourceRecord) → length t ≤ limit → Spells t rs → counted (check limit t) ≡ Accepted (length rs)
-accepted t rs fits s = check-by t _ (Checked.whole fits s)
+module _ (t : List ℕ) (a : Answer) (is : Checks t a) where
+  -- a text within the limit that spells a list is accepted, with the list's length; and nothing else is
+  pub accepted : (rs : List ResourceRecord) → length t ≤ limit → Spells t rs → a ≡ Accepted (length rs)
+  accepted rs fits s = check-by t a is _ (Checked.whole fits s)
 
-pub accepted-only : (t : List ℕ) (n : ℕ) → counted (check limit t) ≡ Accepted n → (rs : List ResourceRecord) × Spells t rs × (length rs ≡ n) × (length t ≤ limit)
-accepted-only t n e = count-of t n e
+  pub accepted-only : (n : ℕ) → a ≡ Accepted n → (rs : List ResourceRecord) × Spells t rs × (length rs ≡ n) × (length t ≤ limit)
+  accepted-only n e = count-of t a is n e
 
--- a text that is refused with a number at an offset is refused so
-pub refused : (t : List ℕ) (rs : List ResourceRecord) (n offset : ℕ) → length t ≤ limit → Faults.Refused t rs n offset → counted (check limit t) ≡ Refused n offset
-refused t rs n offset fits r = check-by t _ (Checked.faulty fits r)
+  -- a text that is refused with a number at an offset is refused so
+  pub refused : (rs : List ResourceRecord) (n offset : ℕ) → length t ≤ limit → Faults.Refused t rs n offset → a ≡ Refused n offset
+  refused rs n offset fits r = check-by t a is _ (Checked.faulty fits r)
 
-pub too-long : (t : List ℕ) → limit < length t → counted (check limit t) ≡ Refused listingLong 0
-too-long t h = check-by t _ (Checked.too-long h)
+  pub too-long : limit < length t → a ≡ Refused listingLong 0
+  too-long h = check-by t a is _ (Checked.too-long h)
 
 -- ---- one step, from the offset at on
 
@@ -41,9 +46,13 @@ some-giving t at = some-given t at
 pub one-giving : (t : List ℕ) (at : ℕ) (rs qs : List ResourceRecord) (l m : Last) → Gives t at rs l → Gives t at qs m → (rs ≡ qs) × (l ≡ m)
 one-giving t at rs qs l m g h = one-given t at g h
 
--- a step that keeps the promise of `step_at` is the next answer of what has to be given
-pub step-answers : (t : List ℕ) (at : ℕ) (s : Step) → StepIs t at s → Answers t at s
-step-answers t at s is = answers-by t at s is
+-- it has found a refusal exactly if no record is left before that
+pub step-refused : (t : List ℕ) (at : ℕ) (s : Step) → Answers t at s → (n offset : ℕ) → (s .found ≡ found.Refused n offset) ↔ Gives t at [] (refusal n offset)
+step-refused t at s a n offset = refused-exactly t at s a n offset
+
+-- one step keeps the promise of `step_at`
+pub one-step : (t : List ℕ) (at : ℕ) (s s′ : Step) → StepIs t at s → StepIs t at s′ → s ≡ s′
+one-step t at s s′ is is′ = step-one t at s s′ is is′
 
 -- ---- asked again and again from the beginning of a text, as often as there are steps in ss
 

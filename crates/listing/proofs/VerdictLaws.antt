@@ -4,7 +4,7 @@ use mathlib.Core.Path.{_≡_, refl, sym, ap, _∙_}
 use mathlib.Core.List.{List, [], _∷_, _++_, append-assoc}
 use native.Mathlib.Nat.{add-sub-of-le, zero-add, add-assoc}
 use Rattle.grammar.specs.Listing.{ResourceRecord}
-use Rattle.grammar.proofs.Reader.{Verdict, right, wrong, after, shifted}
+use Rattle.grammar.specs.Reader.{Verdict, right, wrong, after, shifted}
 
 -- with records before
 abbrev pub prepended : List ResourceRecord → Verdict → Verdict

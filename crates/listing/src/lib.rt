@@ -6,13 +6,12 @@ use entry::Record;
 use entry::no_record;
 use entry::read_entry;
 use grammar::LISTING_LIMIT;
-ghost use mathlib.Core.Path.{_≡_};
-ghost use Rattle.grammar.proofs.Reader as reader;
-ghost use Rattle.listing.specs.Reading as spec;
+ghost use Rattle.listing.specs.Reading.{Checks};
+ghost use Rattle.listing.specs.Giving.{StepIs};
 
 // Checks a listing: how many records it has; or the number and the offset of its refusal.
 pub fn check(text: &[u8]) -> Answer
-    ensures { λ r. ⌜ r ≡ spec.counted (reader.check spec.limit (now (text .entry))) ⌝ }
+    ensures { λ r. ⌜ Checks (now (text .entry)) r ⌝ }
 {
     if LISTING_LIMIT < text.len() {
         return Answer::Refused {
@@ -58,7 +57,7 @@ pub struct Step {
 
 // The next record from the offset `at` on, which is 0 or the `next` of a step before; or the end, also past the text; or the refusal.
 pub fn step_at(text: &[u8], at: usize) -> Step
-    ensures { λ r. ⌜ spec.StepIs (now (text .entry)) at r ⌝ }
+    ensures { λ r. ⌜ StepIs (now (text .entry)) at r ⌝ }
 {
     if LISTING_LIMIT < text.len() {
         return Step {

@@ -10,8 +10,7 @@ use Rattle.base.specs.declared.Answer.the-variants.{Refused}
 use Rattle.base.proofs.AnswerLaws.{accepted≢refused}
 use Rattle.grammar.specs.Listing.{ResourceRecord, Spells}
 use Rattle.grammar.specs.Outcome.{Outcome, accepted, refused, Checked, Answered}
-use Rattle.grammar.proofs.Reader.{answer}
-use Rattle.grammar.proofs.ReaderLaws.{answers, answered, accepted-spells, same-list}
+use Rattle.grammar.proofs.ReaderLaws.{accepted-spells, same-list}
 use Rattle.grammar.proofs.Theorems.{one-answer}
 use Rattle.entry.specs.Held.{held}
 use Rattle.entry.specs.declared.Record.{Record}
@@ -19,40 +18,28 @@ use Rattle.listing.specs.Reading.{limit, counted}
 use Rattle.row.specs.Demand3.{Demand3}
 use Rattle.row.specs.Row.{placed, RowRead}
 
--- an accepted answer is grammar's list, with room for it
-record Accepts (t : List ℕ) (places : ℕ) : Type 0 where
-  list : List ResourceRecord
-  spells : Spells t list
-  room : length list ≤ places
-  outcome : answer limit places t ≡ accepted list
-
-accepted-list : (t : List ℕ) (places : ℕ) → IsAccepted (counted (answer limit places t)) → Accepts t places
-unfolding IsAccepted
-accepted-list t places h = go (answer limit places t) refl (answers limit places t) h
-  where
-    go : (o : Outcome) → answer limit places t ≡ o → Answered limit places t o → IsAccepted (counted o) → Accepts t places
-    go (accepted rs) e a k = let s = accepted-spells a in record { list = rs; spells = s .0; room = s .1; outcome = e }
-    go (refused n p) e a k = absurd (accepted≢refused (sym (k .1)))
-
--- the demand, of grammar's answer and of the row that goes with it
-module _ (t : List ℕ) (lent : List Record) (short : length t ≤ limit) where
-  abbrev given : Outcome
-  given = answer limit (length lent) t
-
-  answered-list : (rs : List ResourceRecord) → Spells t rs → length rs ≤ length lent → given ≡ accepted rs
-  answered-list rs s room = answered (Answered.in-row (Checked.whole short s) room)
+-- the demand, of the outcome that grammar gives, and of the row that goes with it
+module _ (t : List ℕ) (lent : List Record) (given : Outcome) (judged : Answered limit (length lent) t given) where
+  -- an accepted answer is a list that the text spells, with room for it
+  accepted-list : IsAccepted (counted given) → (rs : List ResourceRecord) × Spells t rs × (length rs ≤ length lent) × (given ≡ accepted rs)
+  unfolding IsAccepted
+  accepted-list h = go given refl judged h
+    where
+      go : (o : Outcome) → given ≡ o → Answered limit (length lent) t o → IsAccepted (counted o) → (rs : List ResourceRecord) × Spells t rs × (length rs ≤ length lent) × (given ≡ accepted rs)
+      go (accepted rs) e a k = let s = accepted-spells a in (rs, s .0, s .1, e)
+      go (refused n p) e a k = absurd (accepted≢refused (sym (k .1)))
 
   -- what is accepted and spells rs is answered with rs
   listed : (rs : List ResourceRecord) → IsAccepted (counted given) → Spells t rs → given ≡ accepted rs
-  listed rs h s = let k = accepted-list t (length lent) h in k .outcome ∙ ap accepted (same-list (k .spells) s)
+  listed rs h s = let k = accepted-list h in k .3 ∙ ap accepted (same-list (k .1) s)
 
-  pub demand3-met : Demand3 t lent (placed given lent) (counted given)
+  pub demand3-met : Demand3 limit t lent (placed given lent) (counted given)
   unfolding IsAccepted
   demand3-met =
       record {
-        accepted-exactly = (
-          λ h. let k = accepted-list t (length lent) h in (k .list, k .spells, k .room),
-          λ h. (length (h .0), ap counted (answered-list (h .0) (h .1) (h .2))),
+        accepted-exactly = λ short. (
+          λ h. let k = accepted-list h in (k .0, k .1, k .2),
+          λ h. (length (h .0), ap counted (one-answer limit (length lent) t given (accepted (h .0)) judged (Answered.in-row (Checked.whole short (h .1)) (h .2)))),
         );
         one-list = λ rs qs s r. same-list s r;
         count = λ rs h s. ap (λ (o : Outcome). value (counted o)) (listed rs h s);

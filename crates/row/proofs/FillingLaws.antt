@@ -10,14 +10,12 @@ use lib.ListN.{length, drop, set, length-set, length-append}
 use borrow.Author.Tests.{ltb-true, ltb-false}
 use Rattle.grammar.specs.Listing.{ResourceRecord}
 use Rattle.grammar.specs.Outcome.{Outcome, accepted, refused, Checked, Answered}
-use Rattle.grammar.proofs.Reader.{answer}
-use Rattle.grammar.proofs.ReaderLaws.{answers}
 use Rattle.entry.specs.Held.{held}
 use Rattle.entry.specs.declared.Record.{Record}
 use Rattle.listing.specs.Reading.{limit, counted}
 use Rattle.listing.specs.Giving.{end, Gives, whole}
 use Rattle.row.specs.Demand3.{Demand3}
-use Rattle.row.specs.Row.{placed, RowRead, beginning, Ahead, More, Takes, TakesNext}
+use Rattle.row.specs.Row.{placed, RowRead, beginning, Begins, Ahead, More, Takes, TakesNext}
 use Rattle.row.specs.declared.Filling.{Filling}
 use Rattle.row.specs.declared.Turn.{Turn}
 use Rattle.row.proofs.DemandLaws.{demand3-met}
@@ -31,13 +29,13 @@ set-next f xs x [] h = absurd (omega arith)
 set-next f [] x (y ∷ ys) h = refl
 set-next {B = B} f (z ∷ xs) x (y ∷ ys) h = ap {B = List B} (λ l. f z ∷ l) (set-next f xs x ys (omega arith))
 
--- records are ahead: the row zs, which was lent as ys, has those that are done
-pub record Going (t : List ℕ) (ys : List Record) (s : Filling) (zs : List Record) : Type 0 where
+-- records are ahead of the list that is answered: the row zs, which was lent as ys, has those that are done
+pub record Going (t : List ℕ) (ys : List Record) (o : Outcome) (s : Filling) (zs : List Record) : Type 0 where
   pub done : List ResourceRecord
   pub next : ResourceRecord
   pub rest : List ResourceRecord
   pub ahead : Ahead t s next rest
-  pub outcome : answer limit (length ys) t ≡ accepted (done ++ next ∷ rest)
+  pub list : o ≡ accepted (done ++ next ∷ rest)
   pub counts : s .count ≡ length done
   pub room : length (done ++ next ∷ rest) ≤ length ys
   pub row : zs ≡ map held done ++ drop (length done) ys
@@ -45,36 +43,41 @@ pub record Going (t : List ℕ) (ys : List Record) (s : Filling) (zs : List Reco
 -- the row that was lent as ys stands at zs where the filling is s
 pub record Filled (t : List ℕ) (ys : List Record) (s : Filling) (zs : List Record) : Type 0 where
   pub long : length zs ≡ length ys
-  pub answered : s .answer ≡ counted (answer limit (length ys) t)
-  pub more : s .going ≡ true → Going t ys s zs
-  pub all : s .going ≡ false → zs ≡ placed (answer limit (length ys) t) ys
+  pub outcome : Outcome
+  pub judged : Answered limit (length ys) t outcome
+  pub answered : s .answer ≡ counted outcome
+  pub more : s .going ≡ true → Going t ys outcome s zs
+  pub all : s .going ≡ false → zs ≡ placed outcome ys
 
-pub filled-none : (t : List ℕ) (ys : List Record) (s : Filling) → s ≡ beginning (answer limit (length ys) t) → Filled t ys s ys
-filled-none t ys s e = subst (λ (z : Filling). Filled t ys z ys) (sym e) (go (answer limit (length ys) t) refl (answers limit (length ys) t))
+pub filled-none : (t : List ℕ) (ys : List Record) (s : Filling) → Begins t (length ys) s → Filled t ys s ys
+unfolding Begins
+filled-none t ys s (o, judged, e) = subst (λ (z : Filling). Filled t ys z ys) (sym e) (go o judged)
   where
-    go : (o : Outcome) → answer limit (length ys) t ≡ o → Answered limit (length ys) t o → Filled t ys (beginning o) ys
-    go (accepted []) q a = record { long = refl; answered = ap counted (sym q); more = λ k. absurd (false≢true k); all = λ k. ap (λ (o : Outcome). placed o ys) (sym q) }
-    go (accepted (r ∷ rs)) q (Answered.in-row (Checked.whole short spells) room) =
+    go : (o : Outcome) → Answered limit (length ys) t o → Filled t ys (beginning o) ys
+    go (accepted []) a = record { long = refl; outcome = accepted []; judged = a; answered = refl; more = λ k. absurd (false≢true k); all = λ k. refl }
+    go (accepted (r ∷ rs)) (Answered.in-row (Checked.whole short spells) room) =
         record {
           long = refl;
-          answered = ap counted (sym q);
+          outcome = accepted (r ∷ rs);
+          judged = Answered.in-row (Checked.whole short spells) room;
+          answered = refl;
           more = λ k. record {
             done = [];
             next = r;
             rest = rs;
             ahead = record { gives = whole short spells; many = zero-add (length (r ∷ rs)) };
-            outcome = q;
+            list = refl;
             counts = refl;
             room = room;
             row = refl;
           };
           all = λ k. absurd (omega (arith, ltb-false 0 (length (r ∷ rs)) k));
         }
-    go (refused n p) q a = record { long = refl; answered = ap counted (sym q); more = λ k. absurd (false≢true k); all = λ k. ap (λ (o : Outcome). placed o ys) (sym q) }
+    go (refused n p) a = record { long = refl; outcome = refused n p; judged = a; answered = refl; more = λ k. absurd (false≢true k); all = λ k. refl }
 
 -- one place more
 module _ (t : List ℕ) (ys : List Record) (s : Filling) (zs : List Record) (h : Filled t ys s zs) (going : s .going ≡ true) where
-  abbrev here : Going t ys s zs
+  abbrev here : Going t ys (h .outcome) s zs
   here = h .more going
 
   pub is-more : More t s
@@ -93,6 +96,8 @@ module _ (t : List ℕ) (ys : List Record) (s : Filling) (zs : List Record) (h :
   filled-more d takes =
       record {
         long = length-set zs (s .count) (d .«record») ∙ h .long;
+        outcome = h .outcome;
+        judged = h .judged;
         answered = ap (λ (z : Filling). z .answer) (k .after) ∙ h .answered;
         more = λ q. go-on (here .rest) refl (sym (ap (λ (z : Filling). z .going) (k .after)) ∙ q);
         all = λ q. over (here .rest) refl (sym (ap (λ (z : Filling). z .going) (k .after)) ∙ q);
@@ -110,7 +115,7 @@ module _ (t : List ℕ) (ys : List Record) (s : Filling) (zs : List Record) (h :
       row-is : set zs (s .count) (d .«record») ≡ map held done ++ drop (length done) ys
       row-is =
           ap (λ (l : List Record). set l (s .count) (d .«record»)) (here .row) ∙ ap (λ (n : ℕ). set (map held (here .done) ++ drop (length (here .done)) ys) n (d .«record»)) (here .counts)
-          ∙ ap (λ (p : Record). set (map held (here .done) ++ drop (length (here .done)) ys) (length (here .done)) p) (k .place)
+          ∙ ap (λ (p : Record). set (map held (here .done) ++ drop (length (here .done)) ys) (length (here .done)) p) (k .taken)
           ∙ set-next held (here .done) (here .next) ys (omega (arith, here .counts, in-row, h .long))
 
       count-is : d .after .count ≡ s .count + 1
@@ -119,11 +124,11 @@ module _ (t : List ℕ) (ys : List Record) (s : Filling) (zs : List Record) (h :
       total-is : d .after .total ≡ s .total
       total-is = ap (λ (z : Filling). z .total) (k .after)
 
-      over : (rest : List ResourceRecord) → here .rest ≡ rest → ltb (s .count + 1) (s .total) ≡ false → set zs (s .count) (d .«record») ≡ placed (answer limit (length ys) t) ys
-      over [] q e = row-is ∙ ap (λ (o : Outcome). placed o ys) (sym (here .outcome ∙ ap accepted (joined [] q ∙ append-nil done)))
+      over : (rest : List ResourceRecord) → here .rest ≡ rest → ltb (s .count + 1) (s .total) ≡ false → set zs (s .count) (d .«record») ≡ placed (h .outcome) ys
+      over [] q e = row-is ∙ ap (λ (o : Outcome). placed o ys) (sym (here .list ∙ ap accepted (joined [] q ∙ append-nil done)))
       over (r ∷ rs) q e = absurd (omega (arith, ltb-false (s .count + 1) (s .total) e, here .ahead .many, ap length q))
 
-      go-on : (rest : List ResourceRecord) → here .rest ≡ rest → ltb (s .count + 1) (s .total) ≡ true → Going t ys (d .after) (set zs (s .count) (d .«record»))
+      go-on : (rest : List ResourceRecord) → here .rest ≡ rest → ltb (s .count + 1) (s .total) ≡ true → Going t ys (h .outcome) (d .after) (set zs (s .count) (d .«record»))
       go-on [] q e = absurd (omega (arith, ltb-true (s .count + 1) (s .total) e, here .ahead .many, ap length q))
       go-on (r ∷ rs) q e =
           record {
@@ -134,7 +139,7 @@ module _ (t : List ℕ) (ys : List Record) (s : Filling) (zs : List Record) (h :
               gives = subst (λ (l : List ResourceRecord). Gives t (d .after .at) l end) q (k .gives);
               many = omega (arith, count-is, total-is, here .ahead .many, ap length q);
             };
-            outcome = here .outcome ∙ ap accepted (joined (r ∷ rs) q);
+            list = here .list ∙ ap accepted (joined (r ∷ rs) q);
             counts = omega (arith, count-is, here .counts, length-append (here .done) (here .next ∷ []));
             room = omega (arith, here .room, ap length (joined (r ∷ rs) q));
             row = row-is;
@@ -144,9 +149,9 @@ module _ (t : List ℕ) (ys : List Record) (s : Filling) (zs : List Record) (h :
 pub filled-all : (t : List ℕ) (ys : List Record) (s : Filling) (zs : List Record) → Filled t ys s zs → s .going ≡ false → RowRead t ys zs (s .answer)
 filled-all t ys s zs h still =
     record {
-      demand3 = λ short. subst (λ (l : List Record). Demand3 t ys l (s .answer)) (sym (h .all still)) (subst (Demand3 t ys (placed (answer limit (length ys) t) ys)) (sym (h .answered)) (demand3-met t ys short));
-      outcome = answer limit (length ys) t;
-      judged = answers limit (length ys) t;
+      demand3 = subst (λ (l : List Record). Demand3 limit t ys l (s .answer)) (sym (h .all still)) (subst (Demand3 limit t ys (placed (h .outcome) ys)) (sym (h .answered)) (demand3-met t ys (h .outcome) (h .judged)));
+      outcome = h .outcome;
+      judged = h .judged;
       answered = h .answered;
       row = h .all still;
     }

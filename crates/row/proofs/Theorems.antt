@@ -1,5 +1,5 @@
 -- The public theorems of `row`: what `read` promises (specs/Row.antt, RowRead), said of the definitions alone. Assumes nothing.
-use Prim.Native.Nat.{ℕ, _≤_}
+use Prim.Native.Nat.{ℕ}
 use mathlib.Core.Path.{_≡_}
 use mathlib.Core.List.{List}
 use lib.ListN.{length, drop}
@@ -14,9 +14,9 @@ use Rattle.row.specs.Row.{placed, RowRead}
 use Rattle.row.proofs.DemandLaws.{as-answered, as-lent, beyond-as-lent}
 
 module _ (t : List ℕ) (lent handed : List Record) (a : Answer) (h : RowRead t lent handed a) where
-  -- the customer's third demand, for every listing within the limit and every row
-  pub demand-3 : length t ≤ limit → Demand3 t lent handed a
-  demand-3 short = h .demand3 short
+  -- the customer's third demand, for every listing and every row
+  pub demand-3 : Demand3 limit t lent handed a
+  demand-3 = h .demand3
 
   -- for every listing and every row: what grammar's definition says is answered, and the row is the one that goes with it
   pub answered-exactly : (o : Outcome) → Answered limit (length lent) t o → (a ≡ counted o) × (handed ≡ placed o lent)

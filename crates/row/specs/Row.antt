@@ -24,8 +24,7 @@ placed (refused n offset) lent = lent
 
 -- the listing t was read into a row, which held the places lent and now holds the places handed; a was answered
 pub record RowRead (t : List ℕ) (lent handed : List Record) (a : Answer) : Type 0 where
-  -- demand 3, for every listing within the limit
-  pub demand3 : length t ≤ limit → Demand3 t lent handed a
+  pub demand3 : Demand3 limit t lent handed a
   -- and for every listing: the answer, refusals too, and every place, are those of what grammar says is answered to t and a row of so many places
   pub outcome : Outcome
   pub judged : Answered limit (length lent) t outcome
@@ -42,6 +41,10 @@ abbrev pub beginning : Outcome → Filling
 beginning (accepted rs) = record { answer = Accepted (length rs); at = 0; count = 0; total = length rs; going = ltb 0 (length rs) }
 beginning (refused n offset) = refusing n offset
 
+-- the filling of a row of so many places with the listing t begins with the state s: that of what grammar says is answered
+unfoldable pub Begins : List ℕ → ℕ → Filling → Type 0
+Begins t places s = (o : Outcome) × Answered limit places t o × (s ≡ beginning o)
+
 -- from the state's offset on the listing t gives the record r, then rs and the end, and they are as many as there are places to fill
 pub record Ahead (t : List ℕ) (s : Filling) (r : ResourceRecord) (rs : List ResourceRecord) : Type 0 where
   pub gives : Gives t (s .at) (r ∷ rs) end
@@ -53,7 +56,7 @@ More t s = (r : ResourceRecord) × (rs : List ResourceRecord) × Ahead t s r rs
 
 -- a turn takes r: that is the place's record, and the state after it has rs ahead
 pub record Takes (t : List ℕ) (s : Filling) (r : ResourceRecord) (rs : List ResourceRecord) (d : Turn) : Type 0 where
-  pub place : d .«record» ≡ held r
+  pub taken : d .«record» ≡ held r
   pub gives : Gives t (d .after .at) rs end
   pub after : d .after ≡ record { answer = s .answer; at = d .after .at; count = s .count + 1; total = s .total; going = ltb (s .count + 1) (s .total) }
 

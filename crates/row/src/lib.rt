@@ -6,26 +6,24 @@ use entry::Record;
 use listing::check;
 use listing::step_at;
 ghost use mathlib.Core.Path.{_≡_};
-ghost use Rattle.grammar.proofs.Reader as reader;
-ghost use Rattle.listing.specs.Reading.{limit};
 ghost use Rattle.row.specs.Row as spec;
 
 // How far a row is filled.
-pub struct Filling {
+struct Filling {
     // what the call answers
-    pub answer: Answer,
+    answer: Answer,
     // where the next record is looked for in the listing
-    pub at: usize,
+    at: usize,
     // how many places are filled, and how many are to be
-    pub count: usize,
-    pub total: usize,
-    pub going: bool,
+    count: usize,
+    total: usize,
+    going: bool,
 }
 
 // The record for the next place, and the filling after it.
-pub struct Turn {
-    pub record: Record,
-    pub after: Filling,
+struct Turn {
+    record: Record,
+    after: Filling,
 }
 
 fn refused(number: u32, offset: u32) -> Filling
@@ -45,7 +43,7 @@ fn refused(number: u32, offset: u32) -> Filling
 
 // The answer to a listing and a row of so many places, before any is filled.
 fn begin(text: &[u8], places: usize) -> Filling
-    ensures { λ s. ⌜ s ≡ spec.beginning (reader.answer limit places (now (text .entry))) ⌝ }
+    ensures { λ s. ⌜ spec.Begins (now (text .entry)) places s ⌝ }
 {
     match check(text) {
         Answer::Refused { number, offset } => refused(number, offset),

@@ -13,20 +13,15 @@ use Rattle.address.specs.Address.{writtenA, writtenAAAA}
 use Rattle.dhcid_text.specs.Dhcid.{base64}
 use Rattle.dhcid_text.proofs.Base64Laws.{length-base64}
 use Rattle.grammar.specs.Listing.{RecordType, mnemonic, ResourceRecord}
-use Rattle.entry.specs.Held.{number}
+use Rattle.grammar.specs.Whole.{rdataSize}
+use Rattle.entry.specs.Held.{typeNumber}
 use Rattle.writer.specs.Line.{rdataText, line, lines}
 use Rattle.writer.specs.Parts.{typePart, rdataPart, restPart}
 use Rattle.writer.proofs.PartLaws.{length-a, length-aaaa}
 
 -- ---- what follows the owner
 
--- how many bytes the data of each type are
-abbrev pub rdataSize : RecordType → ℕ
-rdataSize RecordType.A = 4
-rdataSize RecordType.AAAA = 16
-rdataSize RecordType.DHCID = 35
-
-type-text : (k : RecordType) → typePart (number k) ≡ 32 ∷ mnemonic k ++ 32 ∷ []
+type-text : (k : RecordType) → typePart (typeNumber k) ≡ 32 ∷ mnemonic k ++ 32 ∷ []
 unfolding typePart mnemonic ascii
 type-text RecordType.A = refl
 type-text RecordType.AAAA = refl
@@ -37,22 +32,32 @@ blanks o m d =
     sym (append-assoc o ((32 ∷ m ++ 32 ∷ []) ++ d) (10 ∷ []))
     ∙ ap (λ (l : List ℕ). l ++ 10 ∷ []) (ap (λ (l : List ℕ). o ++ l) (append-assoc (32 ∷ m) (32 ∷ []) d) ∙ sym (append-assoc o (32 ∷ m) (32 ∷ d)))
 
-rdata-text : (k : RecordType) (x bs : List ℕ) → length bs ≡ 35 → take (rdataSize k) bs ≡ x → rdataPart (number k) bs ≡ rdataText k x
+rdata-text : (k : RecordType) (x bs : List ℕ) → length bs ≡ 35 → take (rdataSize k) bs ≡ x → rdataPart (typeNumber k) bs ≡ rdataText k x
 unfolding rdataPart rdataText
 rdata-text RecordType.A x bs long first = ap writtenA first
 rdata-text RecordType.AAAA x bs long first = ap writtenAAAA first
 rdata-text RecordType.DHCID x bs long first = ap base64 (sym (take-all 35 bs (omega arith)) ∙ first)
 
+-- each blank before the part that follows it
+pub line-parts : (r : ResourceRecord) → line r ≡ textOf (r .owner) ++ 32 ∷ mnemonic (r .rtype) ++ 32 ∷ rdataText (r .rtype) (r .rdata) ++ 10 ∷ []
+unfolding line ascii
+line-parts r =
+    let o = textOf (r .owner) in
+    let m = mnemonic (r .rtype) in
+    let d = rdataText (r .rtype) (r .rdata) in
+    ap (λ (l : List ℕ). l ++ 10 ∷ []) (append-assoc (o ++ 32 ∷ [] ++ m) (32 ∷ []) d ∙ ap (λ (l : List ℕ). l ++ 32 ∷ d) (append-assoc o (32 ∷ []) m))
+
 -- 35 bytes bs, of which the first are the data x of a record of the type k
 module _ (k : RecordType) (x bs : List ℕ) (long : length bs ≡ 35) (first : take (rdataSize k) bs ≡ x) where
-  pub rest-text : restPart (number k) bs ≡ 32 ∷ mnemonic k ++ 32 ∷ rdataText k x ++ 10 ∷ []
-  unfolding restPart
+  pub rest-text : restPart (typeNumber k) bs ≡ 32 ∷ mnemonic k ++ 32 ∷ rdataText k x ++ 10 ∷ []
+  unfolding restPart ascii
   rest-text = ap₂ (λ (t d : List ℕ). t ++ d ++ 10 ∷ []) (type-text k) (rdata-text k x bs long first) ∙ blanks [] (mnemonic k) (rdataText k x)
 
-  pub rest-line : (n : List ℕ) → textOf n ++ restPart (number k) bs ≡ line (record { owner = n; rtype = k; rdata = x })
-  unfolding restPart line
+  pub rest-line : (n : List ℕ) → textOf n ++ restPart (typeNumber k) bs ≡ line (record { owner = n; rtype = k; rdata = x })
+  unfolding restPart ascii
   rest-line n =
       ap₂ (λ (t d : List ℕ). textOf n ++ (t ++ d ++ 10 ∷ [])) (type-text k) (rdata-text k x bs long first) ∙ blanks (textOf n) (mnemonic k) (rdataText k x)
+      ∙ sym (line-parts (record { owner = n; rtype = k; rdata = x }))
 
 -- ---- lengths
 

@@ -90,7 +90,7 @@ written-on to d at end a b within e ends = ap₂ (λ (l : List ℕ) (k : ℕ). o
 
 module _ (n : ℕ) (bs : List ℕ) where
   pub length-rest : length (restPart n bs) ≡ length (typePart n) + length (rdataPart n bs) + 1
-  unfolding restPart
+  unfolding restPart ascii
   length-rest = length-append (typePart n ++ rdataPart n bs) (10 ∷ []) ∙ ap (λ (k : ℕ). k + 1) (length-append (typePart n) (rdataPart n bs))
 
   pub rest-most : length bs ≡ 35 → length (restPart n bs) ≤ 56
@@ -98,7 +98,7 @@ module _ (n : ℕ) (bs : List ℕ) where
 
   pub rest-written : (to t u : List ℕ) (at middle end : ℕ) → at ≤ length to → t ≡ overlay to at (typePart n) → middle ≡ at + length (typePart n)
       → u ≡ overlay t middle (rdataPart n bs) → end ≡ middle + length (rdataPart n bs) → end < length u → set u end 10 ≡ overlay to at (restPart n bs)
-  unfolding restPart
+  unfolding restPart ascii
   rest-written to t u at middle end within et em eu ee room =
       set-overlay u end 10 room
       ∙ written-on to u at end (typePart n ++ rdataPart n bs) (10 ∷ []) within (eu ∙ written-on to t at middle (typePart n) (rdataPart n bs) within et em)

@@ -11,7 +11,8 @@ use Rattle.address.proofs.Theorems.{written-a, written-aaaa}
 use Rattle.dhcid_text.proofs.Theorems.{written-dhcid}
 use Rattle.grammar.specs.Listing.{blank, kindOf, isWordKind, isWordByte, begins, outside, Piece, Words, Entries}
 use Rattle.grammar.specs.Listing.{RecordType, mnemonic, ResourceRecord, EitherCase, Owner, Head, Rdata, RecordEntry, Records, Spells}
-use Rattle.writer.specs.Line.{RdataOf, WellFormed, rdataText, line, lines}
+use Rattle.writer.specs.Line.{RdataOf, WellFormedRecord, rdataText, line, lines}
+use Rattle.writer.proofs.LineLaws.{line-parts}
 use Rattle.writer.proofs.WordLaws.{Word, owner-word, type-word, rdata-word}
 
 -- ---- three words, with a blank between each two
@@ -47,14 +48,14 @@ entryOf : ResourceRecord → List ℕ
 entryOf r = textOf (r .owner) ++ 32 ∷ (mnemonic (r .rtype) ++ 32 ∷ rdataText (r .rtype) (r .rdata))
 
 line-cut : (r : ResourceRecord) (u : List ℕ) → line r ++ u ≡ entryOf r ++ 10 ∷ u
-unfolding line entryOf
+unfolding entryOf
 line-cut r u =
     let o = textOf (r .owner) in
     let m = mnemonic (r .rtype) in
     let d = rdataText (r .rtype) (r .rdata) in
-    append-assoc (o ++ 32 ∷ m ++ 32 ∷ d) (10 ∷ []) u ∙ ap (λ (l : List ℕ). l ++ 10 ∷ u) (append-assoc o (32 ∷ m) (32 ∷ d))
+    ap (λ (l : List ℕ). l ++ u) (line-parts r) ∙ append-assoc (o ++ 32 ∷ m ++ 32 ∷ d) (10 ∷ []) u ∙ ap (λ (l : List ℕ). l ++ 10 ∷ u) (append-assoc o (32 ∷ m) (32 ∷ d))
 
-module _ (r : ResourceRecord) (h : WellFormed r) where
+module _ (r : ResourceRecord) (h : WellFormedRecord r) where
   entry-words : Words outside (entryOf r) (textOf (r .owner) ∷ mnemonic (r .rtype) ∷ rdataText (r .rtype) (r .rdata) ∷ [])
   unfolding entryOf
   entry-words =
@@ -80,12 +81,12 @@ entry-rdata RecordType.A bs bytes e = Rdata.in-a (written-a bs bytes e)
 entry-rdata RecordType.AAAA bs bytes e = Rdata.in-aaaa (written-aaaa bs bytes e)
 entry-rdata RecordType.DHCID bs bytes e = Rdata.in-dhcid (written-dhcid bs bytes e)
 
-record-entry : (r : ResourceRecord) → WellFormed r → RecordEntry (entryOf r) r
+record-entry : (r : ResourceRecord) → WellFormedRecord r → RecordEntry (entryOf r) r
 record-entry r h =
     record {
       owner = textOf (r .owner);
-      others = mnemonic (r .rtype) ∷ rdataText (r .rtype) (r .rdata) ∷ [];
-      rest = rdataText (r .rtype) (r .rdata) ∷ [];
+      afterOwner = mnemonic (r .rtype) ∷ rdataText (r .rtype) (r .rdata) ∷ [];
+      dataWords = rdataText (r .rtype) (r .rdata) ∷ [];
       words = entry-words r h;
       first = entry-first r h;
       name = entry-owner r h;
@@ -96,7 +97,7 @@ record-entry r h =
 -- ---- lines
 
 -- a line before a text
-line-before : (r : ResourceRecord) (u : List ℕ) (rs : List ResourceRecord) → WellFormed r → Spells u rs → Spells (line r ++ u) (r ∷ rs)
+line-before : (r : ResourceRecord) (u : List ℕ) (rs : List ResourceRecord) → WellFormedRecord r → Spells u rs → Spells (line r ++ u) (r ∷ rs)
 line-before r u rs h s =
     record {
       entries = entryOf r ∷ s .entries;
@@ -107,10 +108,10 @@ line-before r u rs h s =
 no-line : Spells [] []
 no-line = record { entries = [] ∷ []; cut = Entries.last Words.at-end; records = Records.no-record Words.at-end Records.none }
 
-pub lines-spelled : (rs : List ResourceRecord) → Every WellFormed rs → Spells (lines rs) rs
+pub lines-spelled : (rs : List ResourceRecord) → Every WellFormedRecord rs → Spells (lines rs) rs
 unfolding lines
 lines-spelled [] Every.none = no-line
 lines-spelled (r ∷ rs) (Every.more h hs) = line-before r (lines rs) rs h (lines-spelled rs hs)
 
-pub line-spelled : (r : ResourceRecord) → WellFormed r → Spells (line r) (r ∷ [])
+pub line-spelled : (r : ResourceRecord) → WellFormedRecord r → Spells (line r) (r ∷ [])
 line-spelled r h = subst (λ (t : List ℕ). Spells t (r ∷ [])) (append-nil (line r)) (line-before r [] [] h no-line)

@@ -1,18 +1,17 @@
 -- Every record that a listing spells is well formed. Assumes nothing.
 use Prim.Native.Nat.{ℕ, zero, suc, _*_, _/_, _^_, _<_}
-use mathlib.Core.Path.{_≡_, refl, sym, ap, subst, _∙_}
+use mathlib.Core.Path.{_≡_, sym, ap, subst, _∙_}
 use mathlib.Core.List.{List, [], _∷_}
 use native.Mathlib.Nat.{mod-lt}
 use native.Mathlib.Omega.{arith}
-use lib.ListN.{length, length-append}
 use Rattle.base.specs.Bytes.{bigEndian, inBytes}
 use Rattle.base.specs.Logic.{Every}
-use Rattle.base.proofs.Bytes.{length-bigEndian}
 use Rattle.base.proofs.Lists.{every-append}
-use Rattle.name.specs.Name.{Proper, Spells, canonical}
+use Rattle.name.specs.Name.{Proper, SpellsName, canonical}
 use Rattle.name.proofs.Theorems.{canonical-form}
 use Rattle.grammar.specs.Listing.{RecordType, ResourceRecord, Owner, Rdata, RecordEntry, Records}
-use Rattle.writer.specs.Line.{RdataOf, WellFormed}
+use Rattle.grammar.proofs.SizeLaws.{rdata-size}
+use Rattle.writer.specs.Line.{RdataOf, WellFormedRecord}
 
 -- ---- numbers in bytes
 
@@ -26,14 +25,9 @@ unfolding inBytes
 small-numbers n [] = Every.none
 small-numbers n (x ∷ xs) = every-append (bigEndian n x) (inBytes n xs) (small-number n x) (small-numbers n xs)
 
-two-each : (xs : List ℕ) → length (inBytes 2 xs) ≡ 2 * length xs
-unfolding inBytes
-two-each [] = refl
-two-each (x ∷ xs) = omega (arith, length-append (bigEndian 2 x) (inBytes 2 xs), length-bigEndian 2 x, two-each xs)
-
 -- ---- owner and data
 
-spelled-proper : (w n : List ℕ) → Spells w n → Proper n
+spelled-proper : (w n : List ℕ) → SpellsName w n → Proper n
 spelled-proper w n s = record { labels = s .labels; name = s .name; form = s .form }
 
 pub owner-proper : (w n : List ℕ) → Owner w n → Proper n
@@ -50,22 +44,22 @@ rdata-bytes k ds bs (Rdata.in-dhcid s) = s .bytes
 
 rdata-form : (k : RecordType) (ds : List (List ℕ)) (bs : List ℕ) → Rdata k ds bs → RdataOf k bs
 unfolding RdataOf
-rdata-form k ds bs (Rdata.in-a s) = s .four
-rdata-form k ds bs (Rdata.in-aaaa s) = omega (arith, ap length (s .bytes), two-each (s .numbers), s .eight)
+rdata-form k ds bs (Rdata.in-a s) = rdata-size (Rdata.in-a s)
+rdata-form k ds bs (Rdata.in-aaaa s) = rdata-size (Rdata.in-aaaa s)
 rdata-form k ds bs (Rdata.in-dhcid s) = s .test
 
 -- ---- entries
 
-entry-well-formed : (e : List ℕ) (r : ResourceRecord) → RecordEntry e r → WellFormed r
+entry-well-formed : (e : List ℕ) (r : ResourceRecord) → RecordEntry e r → WellFormedRecord r
 entry-well-formed e r h =
     record {
       proper = owner-proper (h .owner) (r .owner) (h .name);
       canonical-owner = owner-canonical (h .owner) (r .owner) (h .name);
-      bytes = rdata-bytes (r .rtype) (h .rest) (r .rdata) (h .rdata);
-      rdata = rdata-form (r .rtype) (h .rest) (r .rdata) (h .rdata);
+      bytes = rdata-bytes (r .rtype) (h .dataWords) (r .rdata) (h .rdata);
+      rdata = rdata-form (r .rtype) (h .dataWords) (r .rdata) (h .rdata);
     }
 
-pub records-well-formed : {es : List (List ℕ)} {rs : List ResourceRecord} → Records es rs → Every WellFormed rs
+pub records-well-formed : {es : List (List ℕ)} {rs : List ResourceRecord} → Records es rs → Every WellFormedRecord rs
 records-well-formed Records.none = Every.none
 records-well-formed (Records.no-record w h) = records-well-formed h
 records-well-formed (Records.a-record {e} {r = r} z h) = Every.more (entry-well-formed e r z) (records-well-formed h)

@@ -89,12 +89,12 @@ pad-word = refl
 -- ---- the owner
 
 text-some : (ls : List (List ℕ)) → 1 ≤ length ls → 1 ≤ length (text ls)
-unfolding text
+unfolding text ascii
 text-some [] some = absurd (omega arith)
 text-some (l ∷ ls) some = omega (arith, length-append l (46 ∷ text ls))
 
 text-each : (ls : List (List ℕ)) → Every Label ls → WordBytes (text ls)
-unfolding text
+unfolding text ascii
 text-each [] Every.none = Every.none
 text-each (l ∷ ls) (Every.more h hs) = every-append l (46 ∷ text ls) (every-by label-word (h .bytes)) (Every.more dot-word (text-each ls hs))
 

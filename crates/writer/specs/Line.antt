@@ -8,7 +8,7 @@ use lib.Dec.{leb}
 use lib.ListN.{length}
 use Rattle.base.specs.declared.Answer.{Answer}
 use Rattle.base.specs.declared.Answer.the-variants.{Accepted, Refused}
-use Rattle.base.specs.Bytes.{overlay}
+use Rattle.base.specs.Bytes.{ascii, overlay}
 use Rattle.base.specs.Dhcid.{wellFormed}
 use Rattle.base.specs.Logic.{Every}
 use Rattle.base.specs.Refusal.{outputShort}
@@ -29,7 +29,7 @@ RdataOf RecordType.AAAA bs = length bs ≡ 16
 RdataOf RecordType.DHCID bs = wellFormed bs ≡ true
 
 -- a well-formed record: its owner a proper name in canonical wire form, its data bytes that its type may have. Every record that a listing spells is one
-pub record WellFormed (r : ResourceRecord) : Type 0 where
+pub record WellFormedRecord (r : ResourceRecord) : Type 0 where
   pub proper : Proper (r .owner)
   pub canonical-owner : canonical (r .owner) ≡ r .owner
   pub bytes : Every (λ b. b < 256) (r .rdata)
@@ -37,8 +37,8 @@ pub record WellFormed (r : ResourceRecord) : Type 0 where
 
 -- the bytes of the place p hold the well-formed record r
 pub record Holds (p : Record) (r : ResourceRecord) : Type 0 where
-  pub place : p ≡ held r
-  pub well-formed : WellFormed r
+  pub form : p ≡ held r
+  pub well-formed : WellFormedRecord r
 
 -- a place that can be written: it holds some well-formed record
 unfoldable pub Writable : Record → Type 0
@@ -52,9 +52,9 @@ rdataText RecordType.A bs = writtenA bs
 rdataText RecordType.AAAA bs = writtenAAAA bs
 rdataText RecordType.DHCID bs = base64 bs
 
--- owner, blank (32), type, blank, data, byte 10
+-- owner, blank, type, blank, data, byte 10
 unfoldable pub line : ResourceRecord → List ℕ
-line r = textOf (r .owner) ++ 32 ∷ mnemonic (r .rtype) ++ 32 ∷ rdataText (r .rtype) (r .rdata) ++ 10 ∷ []
+line r = textOf (r .owner) ++ ascii " " ++ mnemonic (r .rtype) ++ ascii " " ++ rdataText (r .rtype) (r .rdata) ++ ascii "\n"
 
 -- the lines of records, one after the other
 unfoldable pub lines : List ResourceRecord → List ℕ

@@ -21,7 +21,7 @@ rdataPart n bs = cond (eqb n 1) (writtenA (take 4 bs)) (cond (eqb n 28) (written
 
 -- what follows the owner: type, data and byte 10
 unfoldable pub restPart : ℕ → List ℕ → List ℕ
-restPart n bs = typePart n ++ rdataPart n bs ++ 10 ∷ []
+restPart n bs = typePart n ++ rdataPart n bs ++ ascii "\n"
 
 -- all of the line
 unfoldable pub lineOf : Record → List ℕ

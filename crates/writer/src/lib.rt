@@ -63,7 +63,7 @@ pub fn rest_length(rtype: u8, rdata: &[u8]) -> usize
 }
 
 // How many bytes the line of a record has.
-pub fn line_length(place: Record) -> usize
+fn line_length(place: Record) -> usize
     requires { ⌜ spec.Writable place ⌝ }
     ensures { λ n. ⌜ ((r : ResourceRecord) → spec.Holds place r → n ≡ length (spec.line r)) ⌝ }
 {

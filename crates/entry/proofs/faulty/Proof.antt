@@ -3,7 +3,7 @@ use mathlib.Core.Path.{sym, ap, _∙_}
 use lib.ListN.{length}
 use borrow.Author.Tests.{not-true, not-false}
 use Rattle.base.specs.Refusal.{entryShape}
-use Rattle.entry.specs.EntryIs.{faultBefore, faultyFrom}
+use Rattle.entry.specs.EntryAt.{faultBefore, faultyFrom}
 use borrow.Author.Needs.{needs}
 use Rattle.entry.proofs.faulty.Statement.{statement}
 use Rattle.entry.proofs.faulty.Tie as tie

@@ -1,6 +1,5 @@
 use mathlib.Core.Path.{refl}
-use Rattle.name.specs.Name.{padded}
-use Rattle.dhcid_text.specs.DhcidReading.{zeroFilled}
+use Rattle.base.specs.Bytes.{padded, zeroFilled}
 use Rattle.entry.specs.Held.{noRecord}
 use Rattle.entry.proofs.no_record.Statement.{statement}
 use Rattle.entry.proofs.no_record.Tie as tie

@@ -1,5 +1,5 @@
 use mathlib.Core.Path.{ap}
-use Rattle.entry.specs.EntryIs.{nothingBefore}
+use Rattle.entry.specs.EntryAt.{nothingBefore}
 use Rattle.entry.specs.declared.Record.{Record}
 use Rattle.entry.specs.declared.Content.the-variants
 use borrow.Author.Needs.{needs}

@@ -1,4 +1,5 @@
 use mathlib.Core.Bool.{false}
+use mathlib.Core.Path.{_∙_}
 use Rattle.entry.proofs.NextLaws.{word-is, line-is, end-is, fault-is}
 use Rattle.entry.proofs.EntryLaws.{no-words-to-line, no-words-to-end, no-words-to-fault}
 use borrow.Author.Needs.{needs}
@@ -42,19 +43,19 @@ returns-2 : tie.Need-returns-2
 returns-2 c =
     let a = c .before .before .before .before .before .before .args in
     let x = c .before .before .before .before .next-word in
-    no-words-to-line (a .text .now) (a .at) _ (line-is (a .text .now) (a .at) false (x .result) (x .ensures) (c .before .before .next .given .1)) (c .nothing .result) (c .nothing .ensures)
+    c .nothing .ensures ∙ no-words-to-line (a .text .now) (a .at) _ (line-is (a .text .now) (a .at) false (x .result) (x .ensures) (c .before .before .next .given .1))
 
 returns-3 : tie.Need-returns-3
 returns-3 c =
     let a = c .before .before .before .before .before .args in
     let x = c .before .before .before .next-word in
-    no-words-to-end (a .text .now) (a .at) (c .before .before .before .before .before .pre) (end-is (a .text .now) (a .at) false (x .result) (x .ensures) (c .before .enum-told .given .1)) (c .nothing2 .result) (c .nothing2 .ensures)
+    c .nothing2 .ensures ∙ no-words-to-end (a .text .now) (a .at) (end-is (a .text .now) (a .at) false (x .result) (x .ensures) (c .before .enum-told .given .1))
 
 returns-4 : tie.Need-returns-4
 returns-4 c =
     let a = c .before .before .before .before .before .args in
     let x = c .before .before .before .next-word in
-    no-words-to-fault (a .text .now) (a .at) (c .before .before .before .before .before .pre) (fault-is (a .text .now) (a .at) false (x .result) (x .ensures) (c .before .enum-told2 .given .1)) (c .fault .result) (c .fault .ensures)
+    c .fault .ensures ∙ no-words-to-fault (a .text .now) (a .at) (fault-is (a .text .now) (a .at) false (x .result) (x .ensures) (c .before .enum-told2 .given .1))
 
 pub read-entry-spec : {M : Type 1} → statement M
 read-entry-spec =

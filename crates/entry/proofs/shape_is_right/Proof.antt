@@ -3,7 +3,7 @@ use mathlib.Core.Path.{_≡_, sym, ap, _∙_}
 use native.Mathlib.Omega.{arith}
 use lib.ListN.{length}
 use borrow.Author.Needs.{needs}
-use Rattle.entry.specs.EntryIs.{notAtFault}
+use Rattle.entry.specs.EntryAt.{notAtFault}
 use Rattle.entry.proofs.NextLaws.{word-is, word-ends}
 use Rattle.entry.proofs.ShapeLaws.{right, line-right, end-right, fault-wrong}
 use Rattle.entry.proofs.shape_is_right.Statement.{statement}

@@ -31,7 +31,7 @@ returns c =
     let t = a .text .now in
     let w = c .before .before .before .before .before .before .pre in
     let o = c .before .before .before .from-text in
-    bad-owner t (a .at) (a .start) (a .end) (a .inside) w (c .faulty .result) (owner-none (take (a .end - a .start) (drop (a .start) t)) (o .result) (o .ensures) (c .before .if1 .taken)) (c .faulty .ensures)
+    c .faulty .ensures ∙ bad-owner t (a .at) (a .start) (a .end) (a .inside) w (owner-none (take (a .end - a .start) (drop (a .start) t)) (o .result) (o .ensures) (c .before .if1 .taken))
 
 shared-slice-read-is-word-byte : tie.Need-shared-slice-read-is-word-byte
 shared-slice-read-is-word-byte c = search needs
@@ -48,8 +48,8 @@ returns-2 c =
     let t = a .text .now in
     let w = c .before .before .before .before .before .before .before .before .before .pre in
     let o = c .before .before .before .before .before .before .from-text in
-    bad-first t (a .at) (a .start) (a .end) (a .inside) w (c .faulty2 .result)
-    (first-byte t (a .at) (omega (arith, w .from, w .some, w .within)) ∙ sym (c .before .before .is-word-byte .ensures) ∙ not-true (c .before .before .is-word-byte .result) (c .before .if2 .taken)) (c .faulty2 .ensures)
+    c .faulty2 .ensures ∙ bad-first t (a .at) (a .start) (a .end) (a .inside) w
+    (first-byte t (a .at) (omega (arith, w .from, w .some, w .within)) ∙ sym (c .before .before .is-word-byte .ensures) ∙ not-true (c .before .before .is-word-byte .result) (c .before .if2 .taken))
 
 read-requires : tie.Need-read-requires
 read-requires c κs = search needs
@@ -66,7 +66,7 @@ returns-3 c =
     let n = owner-some (take (a .end - a .start) (drop (a .start) t)) (o .result) (o .ensures) (c .before .before .before .before .before .before .before .if1 .left) in
     let first = first-byte t (a .at) (omega (arith, w .from, w .some, w .within)) ∙ sym (c .before .before .before .before .before .is-word-byte .ensures) ∙ not-false (c .before .before .before .before .before .is-word-byte .result) (c .before .before .before .before .if2 .left) in
     let h = c .before .before .before .read in
-    bad-type t (a .at) (a .start) (a .end) (a .inside) w (n .0) first (n .1) (h .result) (h .ensures) (c .faulty3 .result) (c .before .if3 .taken) (c .faulty3 .ensures)
+    c .faulty3 .ensures ∙ bad-type t (a .at) (a .start) (a .end) (a .inside) w (n .0) first (n .1) (h .result) (h .ensures) (c .before .if3 .taken)
 
 read-requires-2 : tie.Need-read-requires-2
 read-requires-2 c κs = search needs
@@ -84,7 +84,7 @@ returns-4 c =
     let first = first-byte t (a .at) (omega (arith, w .from, w .some, w .within)) ∙ sym (c .before .before .before .before .before .before .before .before .is-word-byte .ensures) ∙ not-false (c .before .before .before .before .before .before .before .before .is-word-byte .result) (c .before .before .before .before .before .before .before .if2 .left) in
     let h = c .before .before .before .before .before .before .read in
     let r = c .before .before .before .read2 in
-    bad-data t (a .at) (a .start) (a .end) (a .inside) w (n .0) first (n .1) (h .result) (h .ensures) (c .before .before .before .before .if3 .left) (r .result) (r .ensures) (c .faulty4 .result) (not-true (r .result .found) (c .before .if4 .taken)) (c .faulty4 .ensures)
+    c .faulty4 .ensures ∙ bad-data t (a .at) (a .start) (a .end) (a .inside) w (n .0) first (n .1) (h .result) (h .ensures) (c .before .before .before .before .if3 .left) (r .result) (r .ensures) (not-true (r .result .found) (c .before .if4 .taken))
 
 next-word-requires : tie.Need-next-word-requires
 next-word-requires c κs = search needs
@@ -121,7 +121,7 @@ returns-5 c =
     let h = c .before .before .before .before .before .before .before .before .before .before .before .before .read in
     let r = c .before .before .before .before .before .before .before .before .before .read2 in
     let x = c .before .before .before .before .next-word in
-    word-left t (a .at) (a .start) (a .end) (a .inside) w (n .0) first (n .1) (h .result) (h .ensures) (c .before .before .before .before .before .before .before .before .before .before .if3 .left) (r .result) (r .ensures) (word-is t (r .result .at) (r .result .inside) (x .result) (x .ensures) (c .before .before .after .given .1)) (c .faulty5 .result) (c .faulty5 .ensures)
+    c .faulty5 .ensures ∙ word-left t (a .at) (a .start) (a .end) (a .inside) w (n .0) first (n .1) (h .result) (h .ensures) (c .before .before .before .before .before .before .before .before .before .before .if3 .left) (r .result) (r .ensures) (word-is t (r .result .at) (r .result .inside) (x .result) (x .ensures) (c .before .before .after .given .1))
 
 returns-6 : tie.Need-returns-6
 returns-6 c =
@@ -134,7 +134,7 @@ returns-6 c =
     let h = c .before .before .before .before .before .before .before .before .before .before .before .read in
     let r = c .before .before .before .before .before .before .before .before .read2 in
     let x = c .before .before .before .next-word in
-    shape-left t (a .at) (a .start) (a .end) (a .inside) w (n .0) first (n .1) (h .result) (h .ensures) (c .before .before .before .before .before .before .before .before .before .if3 .left) (r .result) (r .ensures) (fault-is t (r .result .at) (r .result .inside) (x .result) (x .ensures) (c .before .enum-told .given .1)) (c .fault .result) (c .fault .ensures)
+    c .fault .ensures ∙ shape-left t (a .at) (a .start) (a .end) (a .inside) w (n .0) first (n .1) (h .result) (h .ensures) (c .before .before .before .before .before .before .before .before .before .if3 .left) (r .result) (r .ensures) (fault-is t (r .result .at) (r .result .inside) (x .result) (x .ensures) (c .before .enum-told .given .1))
 
 returns-7 : tie.Need-returns-7
 returns-7 c =

@@ -2,6 +2,7 @@ use Prim.Native.Nat.{_-_}
 use native.Mathlib.Omega.{arith}
 use lib.ListN.{length}
 use borrow.Author.Needs.{needs}
+use Rattle.entry.proofs.KnownLaws.{entry-is}
 use Rattle.listing.proofs.CheckLaws.{Counted, counted-none, counted-nothing, counted-record, refused-there, all-counted, over-limit}
 use Rattle.listing.proofs.check.Statement.{statement}
 use Rattle.listing.proofs.check.Tie as tie
@@ -56,7 +57,8 @@ loop-less c =
     let l = c .before .before .before .before in
     let t = l .before .before .before .args .text .now in
     let e = c .before .before .read-entry in
-    omega (arith, e .ensures .on (omega arith), e .ensures .within)
+    let is = entry-is t (l .loop .at) (omega arith) (e .result) (e .ensures) in
+    omega (arith, is .on, is .within)
 
 loop-again : tie.Need-loop-again Inv-loop μ-loop
 loop-again c =
@@ -70,7 +72,8 @@ loop-less-2 c =
     let l = c .before .before .before .before in
     let t = l .before .before .before .args .text .now in
     let e = c .before .before .read-entry in
-    omega (arith, e .ensures .on (omega arith), e .ensures .within)
+    let is = entry-is t (l .loop .at) (omega arith) (e .result) (e .ensures) in
+    omega (arith, is .on, is .within)
 
 loop-again-2 : tie.Need-loop-again-2 Inv-loop μ-loop
 loop-again-2 c =

@@ -2,6 +2,7 @@ use Prim.Native.Nat.{_-_}
 use native.Mathlib.Omega.{arith}
 use lib.ListN.{length}
 use borrow.Author.Needs.{needs}
+use Rattle.entry.proofs.KnownLaws.{entry-is}
 use Rattle.listing.proofs.StepLaws.{Skipped, skipped-none, skipped-nothing, step-record, step-refused, step-end, step-over}
 use Rattle.listing.proofs.step_at.Statement.{statement}
 use Rattle.listing.proofs.step_at.Tie as tie
@@ -33,7 +34,8 @@ loop-less c =
     let a = l .before .before .before .args in
     let t = a .text .now in
     let e = c .before .before .before .read-entry in
-    omega (arith, e .ensures .on (omega arith), e .ensures .within)
+    let is = entry-is t (l .loop .i) (omega arith) (e .result) (e .ensures) in
+    omega (arith, is .on, is .within)
 
 loop-again : tie.Need-loop-again Inv-loop μ-loop
 loop-again c =

@@ -1,6 +1,7 @@
-use mathlib.Core.Path.{_∙_}
+use mathlib.Core.Path.{sym, subst}
 use borrow.Author.Needs.{needs}
 use native.Mathlib.Omega.{arith}
+use Rattle.row.specs.Row.{Begins}
 use Rattle.row.proofs.BeginLaws.{begins-refused, begins-short, begins-whole}
 use Rattle.row.proofs.begin.Statement.{statement}
 use Rattle.row.proofs.begin.Tie as tie
@@ -28,14 +29,14 @@ returns c =
     let r = c .before .before .before in
     let k = r .before .before in
     let a = k .before .before .args in
-    c .refused2 .ensures ∙ begins-short (a .text .now) (a .places) (k .check .result) (k .check .ensures) _ (r .records .given .1) (omega arith)
+    subst (Begins (a .text .now) (a .places)) (sym (c .refused2 .ensures)) (begins-short (a .text .now) (a .places) (k .check .result) (k .check .ensures) _ (r .records .given .1) (omega arith))
 
 returns-2 : tie.Need-returns-2
 returns-2 c =
     let r = c .before .before in
     let k = r .before .before in
     let a = k .before .before .args in
-    c .refused .ensures ∙ begins-refused (a .text .now) (a .places) (k .check .result) (k .check .ensures) _ _ (r .number .given .1)
+    subst (Begins (a .text .now) (a .places)) (sym (c .refused .ensures)) (begins-refused (a .text .now) (a .places) (k .check .result) (k .check .ensures) _ _ (r .number .given .1))
 
 returns-3 : tie.Need-returns-3
 returns-3 c =

@@ -48,10 +48,8 @@ use denote.Triple.Table.{entered, cited}
 use denote.Triple.Walked.{says, Stays, stay-slice, stay-none-slice, walkOf, goes-slice, goes-none-slice, Walks, ends-at, walked, walk-meets}
 use denote.Exit.{yes}
 use Rattle.base.specs.declared.Answer.{Answer}
-use Rattle.grammar.proofs.Reader.{answer}
 use Rattle.entry.specs.declared.Record.{Record}
-use Rattle.listing.specs.Reading.{limit}
-use Rattle.row.specs.Row.{beginning, More, TakesNext}
+use Rattle.row.specs.Row.{Begins, More, TakesNext}
 use Rattle.row.specs.declared.Filling.{Filling}
 use Rattle.row.specs.declared.Turn.{Turn}
 use Rattle.base.proofs.Answer as N
@@ -155,9 +153,6 @@ module _ {M : Type 1} (𝓤 : URA M) (H : Heap 𝓤) (A : Atoms 𝓤) (W : Given
   abbrev vals : List Val × (List Val × Unit {0})
   vals = (vt ∷ [], (vr ∷ [], tt))
 
-  abbrev s₀ : Filling
-  s₀ = beginning (answer limit n text)
-
   abbrev Post : Val → SProp 𝓤
   Post = walkOf 𝓤 H A row-read.ended stayed (row-read.clauses 𝓤 H A mem run) .post (((κ₀, (κ, tt)), (q₀, (q, tt)), tt, a, vals), tt)
 
@@ -181,7 +176,7 @@ module _ {M : Type 1} (𝓤 : URA M) (H : Heap 𝓤) (A : Atoms 𝓤) (W : Given
   spelled : (s : Filling) (u : Val) → Is St s (u ∷ []) → u ≡ mach s
   spelled s u is = ap only (LL.tells S.the-type S′.the-laws s (u ∷ []) is)
 
-  begins : (s : Filling) (u : Val) → s ≡ s₀ → Is St s (u ∷ []) → At-test
+  begins : (s : Filling) (u : Val) → Begins text n s → Is St s (u ∷ []) → At-test
   begins s u e is = (s, ys, (subst (λ (w : Val). Is St s (w ∷ [])) (spelled s u is) is, filled-none text ys s e))
 
   typed-state : (s : Filling) (u : Val) → Is St s (u ∷ []) → Holds (hasTy S′.mir u) × WT u
@@ -226,8 +221,8 @@ module _ {M : Type 1} (𝓤 : URA M) (H : Heap 𝓤) (A : Atoms 𝓤) (W : Given
   goes-begin =
       qed W ((‵ (flft κ₀ q₀) ⊛ ‵ ftrue) ∷ ‵ Text ∷ []) ∵ nothing ! $ owned ! usize (Is usize) (uint-makes 𝓤 H A W w64) n _ (refl, room .0) $ fjoin ! $ move ! (2 ∷ 0 ∷ []) $ fjoin ! $ move ! (1 ∷ 0 ∷ []) $ join ! $ frame ! $ done !
 
-  said-begin : (r : Filling) → ent 𝓤 (ensured 𝓤 H A begin.ended (begin.clauses 𝓤 H A mem run) (κ₀, tt) (t, (n, tt)) tt r) (fact 𝓤 (r ≡ s₀))
-  said-begin r = exE 𝓤 _ (λ ws. snd∗ 𝓤 (sem 𝓤 H A (lasts begin.ended (κ₀, tt) (t, (n, tt)) ws)) (fact 𝓤 (r ≡ s₀)))
+  said-begin : (r : Filling) → ent 𝓤 (ensured 𝓤 H A begin.ended (begin.clauses 𝓤 H A mem run) (κ₀, tt) (t, (n, tt)) tt r) (fact 𝓤 (Begins text n r))
+  said-begin r = exE 𝓤 _ (λ ws. snd∗ 𝓤 (sem 𝓤 H A (lasts begin.ended (κ₀, tt) (t, (n, tt)) ws)) (fact 𝓤 (Begins text n r)))
 
   abbrev to-step : Filling → StepOf 𝓤 H A mem run .Ghost
   to-step s = (((κ₀, tt), (q₀, tt), tt, (t, (s, tt)), (vt ∷ [], (mach s ∷ [], tt))), tt)
@@ -347,7 +342,7 @@ module _ {M : Type 1} (𝓤 : URA M) (H : Heap 𝓤) (A : Atoms 𝓤) (W : Given
         -- [what the callee asks; what text owns; obs; the borrow; row's fact; true; the borrow's token 6; _9 7; …; room 19; …; text 23; …]
         calls-at ! (fmOf 𝓤 H (W .laws) 𝓣) (Begin 𝓤 H A mem run) known-start to-begin (and-then ! (load ! (from ! (here !)) (look ! 23 refl)) (and-then ! (load ! (from ! (here !)) (look ! 19 refl)) (no-more !))) (λ u.
         use1 W (later (some (λ (s : Filling). ((‵ (flft κ₀ q₀) ⊛ ‵ ftrue) ⊛ ‵ (St .own s (u ∷ []))) ⊛ raw (ensured 𝓤 H A begin.ended (begin.clauses 𝓤 H A mem run) (κ₀, tt) (t, (n, tt)) tt s)))) (id⊢ 𝓤 _) $ await ! tt $ pick ! (λ s.
-        split ! $ move ! (1 ∷ []) $ use1 W (raw (fact 𝓤 (s ≡ s₀))) (said-begin s) $ heard ! (s ≡ s₀) (λ e. split ! $ move ! (1 ∷ []) $
+        split ! $ move ! (1 ∷ []) $ use1 W (raw (fact 𝓤 (Begins text n s))) (said-begin s) $ heard ! (Begins text n s) (λ e. split ! $ move ! (1 ∷ []) $
         -- [what the state owns; text's token; what text owns; obs 3; the borrow; row's fact; true; the borrow's token 7; _9 8; …; s 18; …]
         peeks ! St (Is St) (shows 𝓤 H A St) s (u ∷ []) (λ is.
         land ! (from ! (here !)) (init ! 18 refl (typed-state s u is)) $ rewrite ! 18 (λ (w : Val). ‵ (fat fullShare S′.mir l₄ 0 w)) (spelled s u is) refl $

@@ -1,9 +1,9 @@
-use mathlib.Core.Path.{refl}
+use mathlib.Core.Path.{refl, ap}
 use mathlib.Core.List.{_∷_}
 use borrow.Author.Needs.{needs}
 use native.Mathlib.Omega.{arith}
+use Rattle.listing.specs.Found.{Told}
 use Rattle.listing.specs.Giving.{end, Answers}
-use Rattle.listing.proofs.Theorems.{step-answers}
 use Rattle.row.specs.Row.{More, TakesNext}
 use Rattle.row.proofs.step.Statement.{statement}
 use Rattle.row.proofs.step.Tie as tie
@@ -24,8 +24,8 @@ returns c =
     let k = c .before .before .before in
     let a = k .before .before .args in
     λ r rs ahead.
-    let next = step-answers (a .text .now) (a .s .at) (k .step-at .result) (k .step-at .ensures) (r ∷ rs) end (ahead .gives) in
-    record { place = next .1; gives = next .2; after = refl }
+    let next = k .step-at .ensures .is-next (r ∷ rs) end (ahead .gives) in
+    record { taken = ap (λ (x : Told). x .«record») (next .0); gives = next .1; after = refl }
 
 pub step-spec : {M : Type 1} → statement M
 step-spec = tie.close (tie.spec step-at-requires add-count returns)

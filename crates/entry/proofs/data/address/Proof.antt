@@ -1,7 +1,7 @@
 use mathlib.Core.Path.{_≡_}
 use native.Mathlib.Omega.{arith}
 use lib.ListN.{length}
-use Rattle.dhcid_text.specs.DhcidReading.{zeroFilled}
+use Rattle.base.specs.Bytes.{zeroFilled}
 use Rattle.entry.proofs.NextLaws.{word-is, no-word}
 use Rattle.entry.proofs.DataLaws.{no-address, an-a, an-aaaa}
 use borrow.Author.Needs.{needs}

@@ -1,7 +1,7 @@
 use mathlib.Core.Path.{_∙_}
 use denote.Ref.{now}
+use Rattle.base.specs.Bytes.{zeroFilled}
 use Rattle.base.proofs.Bytes.{overlay-zeros}
-use Rattle.dhcid_text.specs.DhcidReading.{zeroFilled}
 use borrow.Author.Needs.{needs}
 use Rattle.entry.proofs.data.zero_filled.Statement.{statement}
 use Rattle.entry.proofs.data.zero_filled.Tie as tie

@@ -1,6 +1,6 @@
 use mathlib.Core.Path.{refl}
 use native.Mathlib.Omega.{arith}
-use Rattle.grammar.proofs.Content.{typed}
+use Rattle.grammar.specs.Content.{typed}
 use Rattle.entry.proofs.NextLaws.{word-is, no-word}
 use Rattle.entry.proofs.HeadLaws.{head-none, head-word}
 use borrow.Author.Needs.{needs}

@@ -1,5 +1,5 @@
 use native.Mathlib.Omega.{arith}
-use Rattle.grammar.proofs.Content.{headOf}
+use Rattle.grammar.specs.Content.{headOf}
 use Rattle.entry.proofs.NextLaws.{word-is, no-word}
 use Rattle.entry.proofs.HeadLaws.{none-headed, head-none, head-no-class, head-after-class}
 use borrow.Author.Needs.{needs}
