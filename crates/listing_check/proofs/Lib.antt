@@ -1,3 +1,4 @@
 pub mod InputLaws
 pub mod LineLaws
-pub mod TurnLaws
+pub mod NextLaws
+pub mod BatchLaws

@@ -8,12 +8,12 @@ use Rattle.base.specs.Answer.{value}
 use Rattle.base.specs.declared.Answer.{Answer}
 use Rattle.base.specs.declared.Answer.the-variants.{Accepted, Refused}
 use Rattle.grammar.specs.Listing.{ResourceRecord}
-use Rattle.writer.specs.Line.{WellFormed, line, putAnswer, putBytes}
+use Rattle.writer.specs.Line.{WellFormedRecord, line, putAnswer, putBytes}
 use Rattle.writer.proofs.RoomLaws.{room-answer, room-bytes}
 use Rattle.writer.proofs.Theorems.{longest-line}
 use Rattle.listing_check.specs.Printing.{longestLine, LinePut}
 
-module _ (r : ResourceRecord) (good : WellFormed r) (out : List ℕ) (used : ℕ) (room : used + longestLine ≤ length out)
+module _ (r : ResourceRecord) (good : WellFormedRecord r) (out : List ℕ) (used : ℕ) (room : used + longestLine ≤ length out)
     (a : Answer) (answers : a ≡ putAnswer (line r) used out) where
   fits : used + length (line r) ≤ length out
   fits = omega (arith, longest-line r good)

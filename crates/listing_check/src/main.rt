@@ -32,7 +32,7 @@ enum Input {
 
 // Reads once from standard input into `room`: how many bytes came, none at the end of the input.
 fn read_some(room: &mut [u8]) -> Input
-    ensures { λ r. ⌜ spec.Fits (now (room .exit)) r ⌝ }
+    ensures { λ r. ⌜ spec.Came (now (room .exit)) r ⌝ }
 {
     let got = libc::read(STDIN_FILENO, room);
     if got < 0 {
@@ -43,7 +43,7 @@ fn read_some(room: &mut [u8]) -> Input
 
 // Reads standard input to its end, or until `text` is full: how many bytes came.
 fn read_input(text: &mut [u8]) -> Input
-    ensures { λ r. ⌜ spec.Fits (now (text .exit)) r ⌝ }
+    ensures { λ r. ⌜ spec.Came (now (text .exit)) r ⌝ }
 {
     let mut len: usize = 0;
     while len < text.len() {
@@ -84,55 +84,77 @@ fn put_line(out: &mut [u8], used: usize, place: Record) -> usize
     }
 }
 
-struct Turn {
+// The lines that wait in the buffer.
+struct Batch {
     // where the listing goes on
     next: usize,
-    // how many bytes of output wait
+    // how many bytes wait
     used: usize,
 }
 
 // Puts the line of the next record from `at` on, if there is one, in a listing that is right.
-fn put_next(text: &[u8], at: usize, out: &mut [u8], used: usize) -> Turn
-    requires { ⌜ spec.Right (now text) at ⌝ }
+fn put_next(text: &[u8], at: usize, out: &mut [u8], used: usize) -> Batch
+    requires { ⌜ spec.Printable (now text) at ⌝ }
     requires { ⌜ used + spec.longestLine ≤ length (now out) ⌝ }
-    ensures { λ r. ⌜ spec.TurnIs (now (text .entry)) at (now (out .entry)) used (now (out .exit)) r ⌝ }
+    ensures { λ b. ⌜ spec.NextPut (now (text .entry)) at (now (out .entry)) used (now (out .exit)) b ⌝ }
 {
     let step = step_at(text, at);
     let found = step.found;
     let record = step.record;
     let next = step.next;
     match found {
-        Found::Record => Turn {
+        Found::Record => Batch {
             next: next,
             used: put_line(out, used, record),
         },
         // the end; a refusal never, since the listing is right
-        _ => Turn {
+        _ => Batch {
             next: text.len(),
             used: used,
         },
     }
 }
 
-// Prints the records of a listing that is right. False where the output failed.
+// Puts the lines of the records from `at` on while there is room for a longest line, in a listing that is right.
+fn fill(text: &[u8], at: usize, out: &mut [u8]) -> Batch
+    requires { ⌜ spec.Printable (now text) at ⌝ }
+    requires { ⌜ spec.longestLine ≤ length (now out) ⌝ }
+    ensures { λ b. ⌜ spec.BatchPut (now (text .entry)) at (now (out .entry)) (now (out .exit)) b ⌝ }
+{
+    let mut next = at;
+    let mut used: usize = 0;
+    while next < text.len() {
+        if out.len() - used < LONGEST_LINE {
+            return Batch {
+                next: next,
+                used: used,
+            };
+        }
+        let batch = put_next(text, next, out, used);
+        next = batch.next;
+        used = batch.used;
+    }
+    Batch {
+        next: next,
+        used: used,
+    }
+}
+
+// Prints the records of a listing that is right, one batch of lines after the other. False where the output failed.
 fn print_records(text: &[u8], out: &mut [u8]) -> bool
-    requires { ⌜ spec.Right (now text) 0 ⌝ }
+    requires { ⌜ spec.Printable (now text) 0 ⌝ }
     requires { ⌜ spec.longestLine ≤ length (now out) ⌝ }
 {
     let mut at: usize = 0;
-    let mut used: usize = 0;
     while at < text.len() {
-        if out.len() - used < LONGEST_LINE {
-            if !print(&out[..used]) {
-                return false;
-            }
-            used = 0;
+        let batch = fill(text, at, out);
+        let used = batch.used;
+        if !print(&out[..used]) {
+            return false;
         }
-        let turn = put_next(text, at, out, used);
-        at = turn.next;
-        used = turn.used;
+        at = batch.next;
     }
-    print(&out[..used])
+    true
 }
 
 fn print_refusal(number: u32, offset: u32) -> bool {

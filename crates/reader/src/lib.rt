@@ -17,9 +17,9 @@ pub fn over<'a>(text: &'a [u8]) -> Reader<'a>
     Reader { text, at: 0 }
 }
 
-// The next answer: a record, the end, or the refusal; and where to go on.
-pub fn next<'a>(reader: Reader<'a>) -> Step
-    ensures { λ s. ⌜ spec.Answers (now (reader .entry .text)) (reader .entry .at) s ⌝ }
+// The next answer: a record, the end, or the refusal; and where to go on. The reader stays where it is.
+pub fn peek<'a>(reader: Reader<'a>) -> Step
+    ensures { λ s. ⌜ spec.StepIs (now (reader .entry .text)) (reader .entry .at) s ⌝ }
 {
     step_at(reader.text, reader.at)
 }
@@ -32,4 +32,11 @@ pub fn moved<'a>(reader: Reader<'a>, at: usize) -> Reader<'a>
         text: reader.text,
         at,
     }
+}
+
+// What a reader of `text` answers that was moved to an offset. Text and offset are all that a caller needs, so its own proof is no walk by hand.
+pub fn peek_at(text: &[u8], at: usize) -> Step
+    ensures { λ s. ⌜ spec.StepIs (now (text .entry)) at s ⌝ }
+{
+    peek(moved(over(text), at))
 }

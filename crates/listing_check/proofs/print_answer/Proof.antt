@@ -1,6 +1,5 @@
-use mathlib.Core.Path.{sym, _∙_}
 use borrow.Author.Needs.{needs}
-use Rattle.listing_check.proofs.TurnLaws.{accepted-right}
+use Rattle.listing_check.proofs.NextLaws.{accepted-printable}
 use Rattle.listing_check.proofs.print_answer.Statement.{statement}
 use Rattle.listing_check.proofs.print_answer.Tie as tie
 
@@ -24,7 +23,7 @@ print-records-requires c κs =
     let k = c .before .before .before in
     let t = k .before .before .before .args .text .now in
     let n = c .before .enum-told .given in
-    (accepted-right t _ (sym (k .check .ensures) ∙ n .1), search needs)
+    (accepted-printable t (k .check .result) _ (k .check .ensures) (n .1), search needs)
 
 enum-known-number : tie.Need-enum-known-number
 enum-known-number c = search needs

@@ -1,25 +1,23 @@
-use Prim.Native.Nat.{_-_, _≤_}
+use Prim.Native.Nat.{_-_}
 use mathlib.Core.Path.{_≡_}
-use mathlib.Core.Logic.{⊎-elim}
 use native.Mathlib.Omega.{arith}
 use lib.ListN.{length, length-take}
 use borrow.Author.Needs.{needs}
-use Rattle.listing_check.specs.Printing.{Right}
-use Rattle.listing_check.proofs.TurnLaws.{turn-on, turn-fits, turn-right}
+use Rattle.listing_check.specs.Printing.{Printable}
 use Rattle.listing_check.proofs.print_records.Statement.{statement}
 use Rattle.listing_check.proofs.print_records.Tie as tie
 
 abbrev Inv-loop : tie.InvT-loop
-Inv-loop text out₀ at₀ used₀ out at used = (used ≤ length out) × (length out ≡ length out₀) × Right text at
+Inv-loop text out₀ at₀ out at = (length out ≡ length out₀) × Printable text at
 
 abbrev μ-loop : tie.MeasureT-loop
-μ-loop text out₀ at₀ used₀ out at used = length text - at
+μ-loop text out₀ at₀ out at = length text - at
 
 loop-holds : tie.Need-loop-holds Inv-loop μ-loop
 loop-holds c = search needs
 
-sub-if1 : tie.Need-sub-if1 Inv-loop μ-loop
-sub-if1 c = search needs
+fill-requires : tie.Need-fill-requires Inv-loop μ-loop
+fill-requires c κs = search needs
 
 slice-reshare-prefix-print : tie.Need-slice-reshare-prefix-print Inv-loop μ-loop
 slice-reshare-prefix-print c = search needs
@@ -36,35 +34,13 @@ same-length c = search needs
 returns : tie.Need-returns Inv-loop μ-loop
 returns c = search needs
 
-put-next-requires : tie.Need-put-next-requires Inv-loop μ-loop
-put-next-requires c κs = (c .before .before .before .loop .inv .2, ⊎-elim (λ w. omega arith) (λ w. omega arith) (c .before .if1 .came))
-
 loop-less : tie.Need-loop-less Inv-loop μ-loop
-loop-less c =
-    let u = c .before .before .before .before in
-    let l = u .before .before in
-    let p = c .before .before .put-next in
-    let t = l .before .before .before .args .text .now in
-    omega (arith, turn-on t (l .loop .at) (l .loop .out) (u .if1 .used) _ (p .result) (p .ensures) (omega arith))
+loop-less c = omega (arith, c .before .before .before .before .before .fill .ensures .on (omega arith))
 
 loop-again : tie.Need-loop-again Inv-loop μ-loop
 loop-again c =
-    let u = c .before .before .before .before in
-    let l = u .before .before in
-    let p = c .before .before .put-next in
-    let t = l .before .before .before .args .text .now in
-    let fits : u .if1 .used ≤ length (l .loop .out) = ⊎-elim (λ w. omega arith) (λ w. omega arith) (u .if1 .came) in
-    let more = turn-fits t (l .loop .at) (l .loop .out) (u .if1 .used) _ (p .result) (p .ensures) fits in
-    (search needs, search needs, turn-right t (l .loop .at) (l .loop .out) (u .if1 .used) _ (p .result) (p .ensures) (l .loop .inv .2))
-
-slice-reshare-prefix-print-2 : tie.Need-slice-reshare-prefix-print-2 Inv-loop μ-loop
-slice-reshare-prefix-print-2 c = search needs
-
-slice-aggregate-print-2 : tie.Need-slice-aggregate-print-2 Inv-loop μ-loop
-slice-aggregate-print-2 c = simp length-take (omega arith)
-
-print-requires-2 : tie.Need-print-requires-2 Inv-loop μ-loop
-print-requires-2 c κs = search needs
+    let front = c .before .before .before .before .before .fill .ensures .front in
+    (search needs, (front .others, front .goes-on))
 
 same-length-2 : tie.Need-same-length-2 Inv-loop μ-loop
 same-length-2 c = search needs
@@ -79,17 +55,13 @@ print-records-spec =
     Inv-loop
     μ-loop
     loop-holds
-    sub-if1
+    fill-requires
     slice-reshare-prefix-print
     slice-aggregate-print
     print-requires
     same-length
     returns
-    put-next-requires
     loop-less
     loop-again
-    slice-reshare-prefix-print-2
-    slice-aggregate-print-2
-    print-requires-2
     same-length-2
     returns-2)

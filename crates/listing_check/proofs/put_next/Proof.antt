@@ -2,7 +2,7 @@ use mathlib.Core.Path.{refl}
 use borrow.Author.Needs.{needs}
 use Rattle.writer.specs.Line.{Writable}
 use Rattle.listing_check.specs.Printing.{put, none}
-use Rattle.listing_check.proofs.TurnLaws.{next-record, next-holds, next-none}
+use Rattle.listing_check.proofs.NextLaws.{next-record, next-none}
 use Rattle.listing_check.proofs.put_next.Statement.{statement}
 use Rattle.listing_check.proofs.put_next.Tie as tie
 
@@ -18,7 +18,7 @@ put-line-requires c κs =
     let s = c .before .before .before .before in
     let a = s .before .before .before in
     let n = next-record (a .args .text .now) (a .args .at) (a .pre .0) (s .step-at .result) (s .step-at .ensures) (c .before .enum-told .given .1) in
-    ((n .head, next-holds _ _ _ n), search needs)
+    ((n .head, n .holds), search needs)
 
 same-length : tie.Need-same-length
 same-length c = search needs
@@ -29,7 +29,7 @@ returns c =
     let s = p .before .before .before .before .before in
     let a = s .before .before .before in
     let n = next-record (a .args .text .now) (a .args .at) (a .pre .0) (s .step-at .result) (s .step-at .ensures) (p .before .before .enum-told .given .1) in
-    put (n .head) (n .rest) (n .spelled) (p .put-line .ensures (n .head) (next-holds _ _ _ n)) (n .on) (n .goes-on)
+    put (n .head) (n .rest) (n .given) (p .put-line .ensures (n .head) (n .holds)) (n .on) (n .goes-on)
 
 returns-2 : tie.Need-returns-2
 returns-2 c =
