@@ -16,7 +16,7 @@ use Rattle.base.proofs.Tests.{and-left, and-right}
 use Rattle.name.specs.Name.{Proper}
 use Rattle.name.specs.ProperTest.{isProper}
 use Rattle.name.proofs.WireLaws.{proper-short, proper-passes, passes-proper, fails-proper}
-use Rattle.message.specs.Request.{bytesOf, Inside, refusedWith}
+use Rattle.message.specs.Request.{bytesOf, Inside, refusedRequest}
 use Rattle.message.specs.declared.Request.{Request}
 use Rattle.message.proofs.PartLaws.{part-length}
 use Rattle.dhcid.specs.Chosen.{KnownSetting, Says, noChoice, fromMessage, fromSite, UsesClients, Chooses, among, nameBytes}
@@ -104,8 +104,8 @@ improper n h = go (isProper n) refl
     go true e = absurd (h (passes-proper n e))
     go false e = refl
 
-refused-number : (n : ℕ) → refusedWith n .refusal ≡ n
-unfolding refusedWith
+refused-number : (n : ℕ) → refusedRequest n .refusal ≡ n
+unfolding refusedRequest
 refused-number n = refl
 
 module _ (family setting : ℕ) (m site : List ℕ) where
@@ -113,7 +113,7 @@ module _ (family setting : ℕ) (m site : List ℕ) where
   unfolding choose
   unknown-chosen e =
       ap (chosenFor setting m site) (said-unknown family setting m e)
-      ∙ sym (for-refused setting m (refusedWith unknownSetting) site (λ z. omega (arith, sym (refused-number unknownSetting) ∙ z)))
+      ∙ sym (for-refused setting m (refusedRequest unknownSetting) site (λ z. omega (arith, sym (refused-number unknownSetting) ∙ z)))
       ∙ ap noChoice (refused-number unknownSetting)
 
   unknown-is : ((KnownSetting setting × KnownFamily family) → ⊥) → isKnown family setting ≡ false

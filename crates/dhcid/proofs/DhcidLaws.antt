@@ -18,7 +18,7 @@ use Rattle.name.proofs.WireLaws.{proper-short}
 use Rattle.message.specs.Request.{identifierBytes}
 use Rattle.message.specs.declared.Request.{Request}
 use Rattle.dhcid.specs.Chosen.{Says, Chooses, nameBytes}
-use Rattle.dhcid.specs.Dhcid.{dhcid, Writes}
+use Rattle.dhcid.specs.Dhcid.{dhcid, WritesDhcid}
 use Rattle.dhcid.specs.declared.Chosen.{Chosen}
 use Rattle.dhcid.proofs.SaysLaws.{placed}
 use Rattle.dhcid.proofs.NumberLaws.{choice-low}
@@ -66,9 +66,9 @@ module _ {family setting : ℕ} {m site : List ℕ} {r : Request} {c : Chosen} (
       let accepted = chosen-accepted family setting m site h k z in
       omega (arith, placed h accepted .identifier bytes, proper-short (nameBytes m site c) (lies k .proper z))
 
-pub never-long : {family setting : ℕ} {m site out : List ℕ} {a : Answer} {left : List ℕ} → Every (λ b. b < 256) m → Writes family setting m site out a left
+pub never-long : {family setting : ℕ} {m site out : List ℕ} {a : Answer} {left : List ℕ} → Every (λ b. b < 256) m → WritesDhcid family setting m site out a left
     → number a ≡ hashInputLong → ⊥
-never-long bytes (Writes.no-name h n) e = omega (arith, choice-low h)
-never-long bytes (Writes.too-much s h z long) e = omega (arith, few-hashed bytes s h z)
-never-long bytes (Writes.no-room s h z few short) e = omega arith
-never-long bytes (Writes.written s h z few room) e = omega arith
+never-long bytes (WritesDhcid.no-name h n) e = omega (arith, choice-low h)
+never-long bytes (WritesDhcid.too-much s h z long) e = omega (arith, few-hashed bytes s h z)
+never-long bytes (WritesDhcid.no-room s h z few short) e = omega arith
+never-long bytes (WritesDhcid.written s h z few room) e = omega arith

@@ -7,7 +7,7 @@ use native.Mathlib.Omega.{arith}
 use lib.Dec.{leb}
 use lib.ListN.{length}
 use Rattle.message.specs.Options.{Located, having, isRepeated, optionOf}
-use Rattle.message.specs.Request.{refusedWith, Identifier, accepted, identified}
+use Rattle.message.specs.Request.{refusedRequest, Identifier, accepted, identified}
 use Rattle.message.specs.declared.Part.{Part}
 use Rattle.message.specs.declared.Request.{Request}
 use Rattle.message4.specs.Options4.{located4}
@@ -17,8 +17,8 @@ use Rattle.message6.specs.Message6.{identifier6, name6, judge6, Level, Reads6}
 use Rattle.dhcid.specs.Chosen.{Says, noChoice, fromMessage, fromSite, Chooses}
 use Rattle.dhcid.specs.declared.Chosen.{Chosen}
 
-low : (n : ℕ) → n ≤ 12 → refusedWith n .refusal ≤ 12
-unfolding refusedWith
+low : (n : ℕ) → n ≤ 12 → refusedRequest n .refusal ≤ 12
+unfolding refusedRequest
 low n h = h
 
 identified-low : (o : Option Identifier) (name : Option Part) → identified o name .refusal ≤ 12
@@ -32,7 +32,7 @@ judged-low4 m ls =
     go (isRepeated 52 ls || isRepeated 53 ls || isRepeated 61 ls || isRepeated 81 ls) (leb 1 (length (having 52 ls))) (isRequest (optionOf 53 ls))
   where
     go : (t u v : Bool)
-        → cond t (refusedWith 5) (cond u (refusedWith 6) (cond v (identified (identifier4 m (optionOf 61 ls)) (name4 (optionOf 81 ls))) (refusedWith 7))) .refusal ≤ 12
+        → cond t (refusedRequest 5) (cond u (refusedRequest 6) (cond v (identified (identifier4 m (optionOf 61 ls)) (name4 (optionOf 81 ls))) (refusedRequest 7))) .refusal ≤ 12
     go true u v = low 5 (omega arith)
     go false true v = low 6 (omega arith)
     go false false true = identified-low (identifier4 m (optionOf 61 ls)) (name4 (optionOf 81 ls))
@@ -42,7 +42,7 @@ judged-low6 : (ls : List Located) → judge6 ls .refusal ≤ 12
 unfolding judge6
 judged-low6 ls = go (isRepeated 1 ls || isRepeated 39 ls)
   where
-    go : (t : Bool) → cond t (refusedWith 5) (identified (identifier6 (optionOf 1 ls)) (name6 (optionOf 39 ls))) .refusal ≤ 12
+    go : (t : Bool) → cond t (refusedRequest 5) (identified (identifier6 (optionOf 1 ls)) (name6 (optionOf 39 ls))) .refusal ≤ 12
     go true = low 5 (omega arith)
     go false = identified-low (identifier6 (optionOf 1 ls)) (name6 (optionOf 39 ls))
 

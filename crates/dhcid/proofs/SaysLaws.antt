@@ -14,7 +14,7 @@ use Rattle.base.specs.Logic.{Every}
 use Rattle.base.specs.Refusal.{unknownSetting}
 use Rattle.base.proofs.Tests.{and-left, and-right}
 use Rattle.message.specs.Options.{Located, isRepeated, having, optionOf}
-use Rattle.message.specs.Request.{Inside, refusedWith, identifierBytes, identified, accepted}
+use Rattle.message.specs.Request.{Inside, refusedRequest, identifierBytes, identified, accepted}
 use Rattle.message.specs.declared.Part.{Part}
 use Rattle.message.specs.declared.Request.{Request}
 use Rattle.message.proofs.RequestLaws.{refused-not}
@@ -82,7 +82,7 @@ says-known (Says.v4 h) = inl refl
 says-known (Says.v6 h) = inr refl
 
 module _ (family setting : ℕ) (m : List ℕ) where
-  pub said-unknown : isKnown family setting ≡ false → said family setting m ≡ refusedWith unknownSetting
+  pub said-unknown : isKnown family setting ≡ false → said family setting m ≡ refusedRequest unknownSetting
   unfolding said
   said-unknown e = rw e
 
@@ -114,7 +114,7 @@ pub record Placed (m : List ℕ) (r : Request) : Type 0 where
   pub identifier : Every (λ b. b < 256) m → length (identifierBytes m r) ≤ 255
 
 identified-type : (m : List ℕ) (o : Option Located) (name : Option Part) → identified (identifier4 m o) name .«id_type» ≤ 2
-unfolding refusedWith accepted
+unfolding refusedRequest accepted
 identified-type m none name = go (eqb (hlen m) 0)
   where
     go : (t : Bool) → identified (cond t none (some (record { type = 0; head = record { start = 1; len = 1 }; rest = record { start = 28; len = hlen m } }))) name .«id_type» ≤ 2
@@ -130,12 +130,12 @@ identified-type m (some l) name = go (hasDuid l) (leb 2 (length (l .bytes)))
     go false false = omega arith
 
 judged-type : (m : List ℕ) (ls : List Located) → judge4 m ls .«id_type» ≤ 2
-unfolding judge4 refusedWith
+unfolding judge4 refusedRequest
 judged-type m ls =
     go (isRepeated 52 ls || isRepeated 53 ls || isRepeated 61 ls || isRepeated 81 ls) (leb 1 (length (having 52 ls))) (isRequest (optionOf 53 ls))
   where
     go : (t u v : Bool)
-        → cond t (refusedWith 5) (cond u (refusedWith 6) (cond v (identified (identifier4 m (optionOf 61 ls)) (name4 (optionOf 81 ls))) (refusedWith 7))) .«id_type» ≤ 2
+        → cond t (refusedRequest 5) (cond u (refusedRequest 6) (cond v (identified (identifier4 m (optionOf 61 ls)) (name4 (optionOf 81 ls))) (refusedRequest 7))) .«id_type» ≤ 2
     go true u v = omega arith
     go false true v = omega arith
     go false false true = identified-type m (optionOf 61 ls) (name4 (optionOf 81 ls))

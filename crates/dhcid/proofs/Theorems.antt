@@ -13,13 +13,13 @@ use Rattle.base.specs.declared.Answer.{Answer}
 use Rattle.name.specs.Name.{Proper, canonical}
 use Rattle.message.specs.Request.{Inside, identifierBytes}
 use Rattle.message.specs.declared.Request.{Request}
-use Rattle.dhcid.specs.Chosen.{Says, Chooses, among, nameBytes}
-use Rattle.dhcid.specs.Dhcid.{dhcid, Writes}
-use Rattle.dhcid.specs.Choosing.{choose, writingAnswer, writingOutput, Puts}
+use Rattle.dhcid.specs.Chosen.{Says, Chooses, among, nameBytes, nameAnswer, NameApart}
+use Rattle.dhcid.specs.Dhcid.{dhcid, WritesDhcid}
+use Rattle.dhcid.specs.Choosing.{choose, writingAnswer, writingOutput, PutsDhcid}
 use Rattle.dhcid.specs.declared.Chosen.{Chosen}
 use Rattle.dhcid.proofs.SaysLaws.{placed}
 use Rattle.dhcid.proofs.ChoiceLaws.{chooses-choice, choice-chooses, lies}
-use Rattle.dhcid.proofs.WritingLaws.{writes-puts, writing-writes}
+use Rattle.dhcid.proofs.WritingLaws.{choice-apart, writes-puts, writing-writes}
 use Rattle.dhcid.proofs.DhcidLaws.{length-dhcid, dhcid-well-formed, output-first, output-rest, few-hashed, never-long}
 
 module _ (family setting : ℕ) (m site : List ℕ) where
@@ -46,32 +46,36 @@ module _ (family setting : ℕ) (m site : List ℕ) where
   pub choice-proper : (c : Chosen) → Chooses family setting m site c → c .refusal ≡ 0 → Proper (nameBytes m site c)
   choice-proper c h = lies h .proper
 
+  -- taken apart as the header does it, the value that C gets is that choice: its source, its start and its length
+  pub name-apart : (c : Chosen) → Chooses family setting m site c → NameApart (nameAnswer c) c
+  name-apart c h = choice-apart h
+
   -- ---- the writing
 
   module _ (out : List ℕ) where
     -- what `put_dhcid` promises is what is to be answered and left in the output, and nothing else is
-    pub puts-writes : (a : Answer) (left : List ℕ) → Puts family setting m site out a left → Writes family setting m site out a left
+    pub puts-writes : (a : Answer) (left : List ℕ) → PutsDhcid family setting m site out a left → WritesDhcid family setting m site out a left
     puts-writes a left p =
-        subst (λ (b : Answer). Writes family setting m site out b left) (sym (p .answers))
-        (subst (Writes family setting m site out (writingAnswer family setting m site out)) (sym (p .leaves)) (writing-writes family setting m site out))
+        subst (λ (b : Answer). WritesDhcid family setting m site out b left) (sym (p .answers))
+        (subst (WritesDhcid family setting m site out (writingAnswer family setting m site out)) (sym (p .leaves)) (writing-writes family setting m site out))
 
-    pub writing : Writes family setting m site out (writingAnswer family setting m site out) (writingOutput family setting m site out)
+    pub writing : WritesDhcid family setting m site out (writingAnswer family setting m site out) (writingOutput family setting m site out)
     writing = writing-writes family setting m site out
 
-    pub only-answer : (a : Answer) (left : List ℕ) → Writes family setting m site out a left → writingAnswer family setting m site out ≡ a
+    pub only-answer : (a : Answer) (left : List ℕ) → WritesDhcid family setting m site out a left → writingAnswer family setting m site out ≡ a
     only-answer a left h = sym (writes-puts family setting m site out h .answers)
 
-    pub only-output : (a : Answer) (left : List ℕ) → Writes family setting m site out a left → writingOutput family setting m site out ≡ left
+    pub only-output : (a : Answer) (left : List ℕ) → WritesDhcid family setting m site out a left → writingOutput family setting m site out ≡ left
     only-output a left h = sym (writes-puts family setting m site out h .leaves)
 
     -- so for every request and every output there is an answer, and one only
-    pub some-writing : (a : Answer) × (left : List ℕ) × Writes family setting m site out a left
+    pub some-writing : (a : Answer) × (left : List ℕ) × WritesDhcid family setting m site out a left
     some-writing = (writingAnswer family setting m site out, writingOutput family setting m site out, writing-writes family setting m site out)
 
-    pub one-answer : (a b : Answer) (left end : List ℕ) → Writes family setting m site out a left → Writes family setting m site out b end → a ≡ b
+    pub one-answer : (a b : Answer) (left end : List ℕ) → WritesDhcid family setting m site out a left → WritesDhcid family setting m site out b end → a ≡ b
     one-answer a b left end h k = writes-puts family setting m site out h .answers ∙ sym (writes-puts family setting m site out k .answers)
 
-    pub one-output : (a b : Answer) (left end : List ℕ) → Writes family setting m site out a left → Writes family setting m site out b end → left ≡ end
+    pub one-output : (a b : Answer) (left end : List ℕ) → WritesDhcid family setting m site out a left → WritesDhcid family setting m site out b end → left ≡ end
     one-output a b left end h k = writes-puts family setting m site out h .leaves ∙ sym (writes-puts family setting m site out k .leaves)
 
   -- identifier and name together have 510 bytes at most, so that 14 is never given to a message of bytes
@@ -79,7 +83,7 @@ module _ (family setting : ℕ) (m site : List ℕ) where
       → length (identifierBytes m r) + length (nameBytes m site c) ≤ 510
   never-too-much r c bytes s h z = few-hashed bytes s h z
 
-  pub never-refused-so : (out : List ℕ) (a : Answer) (left : List ℕ) → Every (λ b. b < 256) m → Writes family setting m site out a left → number a ≡ hashInputLong → ⊥
+  pub never-refused-so : (out : List ℕ) (a : Answer) (left : List ℕ) → Every (λ b. b < 256) m → WritesDhcid family setting m site out a left → number a ≡ hashInputLong → ⊥
   never-refused-so out a left bytes h = never-long bytes h
 
 -- ---- the DHCID

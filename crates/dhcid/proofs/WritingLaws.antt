@@ -19,25 +19,45 @@ use Rattle.name.specs.Name.{canonical}
 use Rattle.name.proofs.WireLaws.{proper-short}
 use Rattle.name.proofs.NameLaws.{length-canonical}
 use Rattle.message.specs.Request.{bytesOf, Inside, identifierBytes}
+use Rattle.message.specs.declared.Part.{Part}
 use Rattle.message.specs.declared.Request.{Request}
 use Rattle.message.proofs.PartLaws.{part-length}
-use Rattle.dhcid.specs.Chosen.{KnownSetting, Says, noChoice, Chooses, nameBytes, sourceNumber, placeAnswer}
-use Rattle.dhcid.specs.Dhcid.{dhcid, dhcidOf, Writes}
-use Rattle.dhcid.specs.Choosing.{said, chosenFor, choose, Hashable, refusalUnder, outputBy, PutsUnder, refusalOf, writingRefusal, writingAnswer, writingOutput, Puts}
+use Rattle.dhcid.specs.Chosen.{KnownSetting, Says, noChoice, fromMessage, fromSite, Chooses, nameBytes, packedName, nameAnswer, NameApart}
+use Rattle.dhcid.specs.Dhcid.{dhcid, dhcidOf, WritesDhcid}
+use Rattle.dhcid.specs.Choosing.{said, chosenFor, choose, Hashable, refusalUnder, outputBy, PutsUnder, refusalOf, writingRefusal, writingAnswer, writingOutput, PutsDhcid}
 use Rattle.dhcid.specs.declared.Chosen.{Chosen}
 use Rattle.dhcid.proofs.SaysLaws.{said-says, accepted-says, read-placed}
-use Rattle.dhcid.proofs.ChoiceLaws.{chooses-choice, choice-chooses, choice-accepted, lies-as}
+use Rattle.dhcid.proofs.ChoiceLaws.{chooses-choice, choice-chooses, choice-accepted, Lies, lies, lies-as}
 
 -- ---- the choice as C gets it
 
 module _ (c : Chosen) where
-  pub place-refused : (c .refusal ≡ 0 → ⊥) → Refused (c .refusal) 0 ≡ placeAnswer c
-  unfolding placeAnswer
-  place-refused h = rw (ne-eqb (c .refusal) 0 h)
+  pub name-refused : (c .refusal ≡ 0 → ⊥) → Refused (c .refusal) 0 ≡ nameAnswer c
+  unfolding nameAnswer
+  name-refused h = rw (ne-eqb (c .refusal) 0 h)
 
-  pub place-chosen : c .refusal ≡ 0 → Accepted (sourceNumber (c .«from_site») * 2 ^ 30 + c .part .start * 2 ^ 8 + c .part .len) ≡ placeAnswer c
-  unfolding placeAnswer
-  place-chosen z = rw (eq-eqb (c .refusal) 0 z)
+  pub name-chosen : c .refusal ≡ 0 → Accepted (packedName (c .«from_site») (c .part)) ≡ nameAnswer c
+  unfolding nameAnswer
+  name-chosen z = rw (eq-eqb (c .refusal) 0 z)
+
+-- C takes it apart: source, start and length are those that were packed
+packed-apart : (b : Bool) (p : Part) → p .start ≤ 2048 → p .len ≤ 255 → NameApart (Accepted (packedName b p)) (record { refusal = 0; «from_site» = b; part = p })
+unfolding packedName
+packed-apart true p near short = record { source = omega arith; start = omega arith; len = omega arith }
+packed-apart false p near short = record { source = omega arith; start = omega arith; len = omega arith }
+
+-- a choice that is none has zeros
+none-apart : (n : ℕ) → (n ≡ 0 → ⊥) → NameApart (nameAnswer (noChoice n)) (noChoice n)
+unfolding noChoice
+none-apart n nz = subst (λ (a : Answer). NameApart a (noChoice n)) (name-refused (noChoice n) nz) (record { source = refl; start = refl; len = refl })
+
+pub choice-apart : {family setting : ℕ} {m site : List ℕ} {c : Chosen} → Chooses family setting m site c → NameApart (nameAnswer c) c
+unfolding nameAnswer fromMessage fromSite
+choice-apart (Chooses.unknown h) = none-apart 12 (λ z. omega arith)
+choice-apart (Chooses.refused {r} s h n) = none-apart (r .refusal) n
+choice-apart {m = m} {site = site} (Chooses.client's {r} h z u) = let l : Lies m site (fromMessage (r .name)) = lies (Chooses.client's h z u) in packed-apart false (r .name) (l .near) (l .short)
+choice-apart {m = m} {site = site} (Chooses.site's s h z u p) = let l : Lies m site (fromSite site) = lies (Chooses.site's s h z u p) in packed-apart true (record { start = 0; len = length site }) (l .near) (l .short)
+choice-apart (Chooses.neither s h z u p) = none-apart 9 (λ z. omega arith)
 
 -- ---- what is hashed
 
@@ -82,14 +102,14 @@ module _ (m : List ℕ) (r : Request) (n out : List ℕ) where
         record { answers = rw (is, room); leaves = rw (is, room) e }
 
 module _ (family setting : ℕ) (m site out : List ℕ) where
-  refused-puts : (choose family setting m site .refusal ≡ 0 → ⊥) → Puts family setting m site out (Refused (choose family setting m site .refusal) 0) out
+  refused-puts : (choose family setting m site .refusal ≡ 0 → ⊥) → PutsDhcid family setting m site out (Refused (choose family setting m site .refusal) 0) out
   unfolding writingAnswer writingOutput writingRefusal refusalOf outputBy
   refused-puts h =
       let n = ne-eqb (choose family setting m site .refusal) 0 h in
       record { answers = rw (n, n); leaves = rw (n, n) }
 
   under-puts : choose family setting m site .refusal ≡ 0 → (a : Answer) (left : List ℕ)
-      → PutsUnder m (said family setting m) (nameBytes m site (choose family setting m site)) out a left → Puts family setting m site out a left
+      → PutsUnder m (said family setting m) (nameBytes m site (choose family setting m site)) out a left → PutsDhcid family setting m site out a left
   unfolding writingAnswer writingOutput writingRefusal refusalOf dhcidOf
   under-puts z a left p =
       let is = eq-eqb (choose family setting m site .refusal) 0 z in
@@ -101,8 +121,8 @@ module _ (family setting : ℕ) (m site out : List ℕ) where
     unfolding choose
     choice-is = picked ∙ ap (chosenFor setting m site) read
 
-    pub puts-refused : (c .refusal ≡ 0 → ⊥) → Puts family setting m site out (Refused (c .refusal) 0) out
-    puts-refused = subst (λ (d : Chosen). (d .refusal ≡ 0 → ⊥) → Puts family setting m site out (Refused (d .refusal) 0) out) (sym choice-is) refused-puts
+    pub puts-refused : (c .refusal ≡ 0 → ⊥) → PutsDhcid family setting m site out (Refused (c .refusal) 0) out
+    puts-refused = subst (λ (d : Chosen). (d .refusal ≡ 0 → ⊥) → PutsDhcid family setting m site out (Refused (d .refusal) 0) out) (sym choice-is) refused-puts
 
     module _ (z : c .refusal ≡ 0) (n : List ℕ) (named : n ≡ nameBytes m site c) where
       chosen : choose family setting m site .refusal ≡ 0
@@ -115,7 +135,7 @@ module _ (family setting : ℕ) (m site out : List ℕ) where
           let short = proper-short (nameBytes m site c) (lies-as family setting m site c choice-is .proper z) in
           record { head = placed .head; rest = placed .rest; message = placed .short; name = omega (arith, ap length named) }
 
-      pub puts-under : (a : Answer) (left : List ℕ) → PutsUnder m r n out a left → Puts family setting m site out a left
+      pub puts-under : (a : Answer) (left : List ℕ) → PutsUnder m r n out a left → PutsDhcid family setting m site out a left
       puts-under a left p =
           under-puts chosen a left
           (subst (λ (k : List ℕ). PutsUnder m (said family setting m) k out a left) (named ∙ ap (nameBytes m site) choice-is)
@@ -147,29 +167,29 @@ module _ (family setting : ℕ) (m site : List ℕ) where
     unfolding choose
     as-picked = sym (chooses-choice family setting m site chooses) ∙ ap (chosenFor setting m site) (sym as-read)
 
-    as-puts : (out : List ℕ) (a : Answer) (left : List ℕ) → PutsUnder m r (nameBytes m site c) out a left → Puts family setting m site out a left
+    as-puts : (out : List ℕ) (a : Answer) (left : List ℕ) → PutsUnder m r (nameBytes m site c) out a left → PutsDhcid family setting m site out a left
     as-puts out a left p = puts-under family setting m site out r c as-read as-picked z (nameBytes m site c) refl a left p
 
 module _ (family setting : ℕ) (m site out : List ℕ) where
   -- what is answered and left is what the functions find
-  pub writes-puts : {a : Answer} {left : List ℕ} → Writes family setting m site out a left → Puts family setting m site out a left
+  pub writes-puts : {a : Answer} {left : List ℕ} → WritesDhcid family setting m site out a left → PutsDhcid family setting m site out a left
   unfolding dhcidOf
-  writes-puts (Writes.no-name {c} h n) =
-      subst (λ (d : Chosen). (d .refusal ≡ 0 → ⊥) → Puts family setting m site out (Refused (d .refusal) 0) out) (chooses-choice family setting m site h)
+  writes-puts (WritesDhcid.no-name {c} h n) =
+      subst (λ (d : Chosen). (d .refusal ≡ 0 → ⊥) → PutsDhcid family setting m site out (Refused (d .refusal) 0) out) (chooses-choice family setting m site h)
       (refused-puts family setting m site out) n
-  writes-puts (Writes.too-much {r} {c} s h z long) = as-puts family setting m site s h z out (Refused hashInputLong 0) out (under-long m r (nameBytes m site c) out long)
-  writes-puts (Writes.no-room {r} {c} s h z few short) = as-puts family setting m site s h z out (Refused outputShort 0) out (under-no-room m r (nameBytes m site c) out few short)
-  writes-puts (Writes.written {r} {c} s h z few room) =
+  writes-puts (WritesDhcid.too-much {r} {c} s h z long) = as-puts family setting m site s h z out (Refused hashInputLong 0) out (under-long m r (nameBytes m site c) out long)
+  writes-puts (WritesDhcid.no-room {r} {c} s h z few short) = as-puts family setting m site s h z out (Refused outputShort 0) out (under-no-room m r (nameBytes m site c) out few short)
+  writes-puts (WritesDhcid.written {r} {c} s h z few room) =
       let left = overlay out 0 (dhcidOf m site r c) in
       as-puts family setting m site s h z out (Accepted 35) left (under-written m r (nameBytes m site c) out few room left refl)
 
-  puts-same : {a : Answer} {left : List ℕ} → Puts family setting m site out a left → Writes family setting m site out a left
-      → Writes family setting m site out (writingAnswer family setting m site out) (writingOutput family setting m site out)
+  puts-same : {a : Answer} {left : List ℕ} → PutsDhcid family setting m site out a left → WritesDhcid family setting m site out a left
+      → WritesDhcid family setting m site out (writingAnswer family setting m site out) (writingOutput family setting m site out)
   puts-same {a} {left} p w =
-      subst (λ (b : Answer). Writes family setting m site out b (writingOutput family setting m site out)) (p .answers)
-      (subst (λ (l : List ℕ). Writes family setting m site out a l) (p .leaves) w)
+      subst (λ (b : Answer). WritesDhcid family setting m site out b (writingOutput family setting m site out)) (p .answers)
+      (subst (λ (l : List ℕ). WritesDhcid family setting m site out a l) (p .leaves) w)
 
-  pub writing-writes : Writes family setting m site out (writingAnswer family setting m site out) (writingOutput family setting m site out)
+  pub writing-writes : WritesDhcid family setting m site out (writingAnswer family setting m site out) (writingOutput family setting m site out)
   unfolding dhcidOf
   writing-writes = go (eqb (c .refusal) 0) refl (ltb 4096 n) refl (ltb (length out) 35) refl
     where
@@ -189,24 +209,24 @@ module _ (family setting : ℕ) (m site out : List ℕ) where
       says z = accepted-says family setting m (choice-accepted family setting m site z)
 
       go : (t : Bool) → eqb (c .refusal) 0 ≡ t → (u : Bool) → ltb 4096 n ≡ u → (v : Bool) → ltb (length out) 35 ≡ v
-          → Writes family setting m site out (writingAnswer family setting m site out) (writingOutput family setting m site out)
+          → WritesDhcid family setting m site out (writingAnswer family setting m site out) (writingOutput family setting m site out)
       go false e u f v g =
           let h = eqb-false (c .refusal) 0 e in
-          puts-same (refused-puts family setting m site out h) (Writes.no-name chooses h)
+          puts-same (refused-puts family setting m site out h) (WritesDhcid.no-name chooses h)
       go true e true f v g =
           let z = eqb-true (c .refusal) 0 e in
           let long = ltb-true 4096 n f in
-          puts-same (under-puts family setting m site out z (Refused hashInputLong 0) out (under-long m r (nameBytes m site c) out long)) (Writes.too-much (says z) chooses z long)
+          puts-same (under-puts family setting m site out z (Refused hashInputLong 0) out (under-long m r (nameBytes m site c) out long)) (WritesDhcid.too-much (says z) chooses z long)
       go true e false f true g =
           let z = eqb-true (c .refusal) 0 e in
           let few = ltb-false 4096 n f in
           let short = ltb-true (length out) 35 g in
           puts-same (under-puts family setting m site out z (Refused outputShort 0) out (under-no-room m r (nameBytes m site c) out few short))
-          (Writes.no-room (says z) chooses z few short)
+          (WritesDhcid.no-room (says z) chooses z few short)
       go true e false f false g =
           let z = eqb-true (c .refusal) 0 e in
           let few = ltb-false 4096 n f in
           let room = ltb-false (length out) 35 g in
           let left = overlay out 0 (dhcidOf m site r c) in
           puts-same (under-puts family setting m site out z (Accepted 35) left (under-written m r (nameBytes m site c) out few room left refl))
-          (Writes.written (says z) chooses z few room)
+          (WritesDhcid.written (says z) chooses z few room)

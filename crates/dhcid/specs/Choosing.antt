@@ -10,7 +10,7 @@ use Rattle.base.specs.Bytes.{overlay}
 use Rattle.base.specs.Refusal.{noProperName, unknownSetting, outputShort, hashInputLong}
 use Rattle.base.specs.declared.Answer.{Answer}
 use Rattle.name.specs.ProperTest.{isProper}
-use Rattle.message.specs.Request.{bytesOf, Inside, refusedWith, identifierBytes}
+use Rattle.message.specs.Request.{bytesOf, Inside, refusedRequest, identifierBytes}
 use Rattle.message.specs.declared.Request.{Request}
 use Rattle.message4.specs.Reading4.{request4}
 use Rattle.message6.specs.Reading6.{request6}
@@ -25,7 +25,7 @@ isKnown family setting = (eqb family 4 || eqb family 6) && (eqb setting 0 || eqb
 
 -- what the message says; 12 before all that
 unfoldable pub said : ℕ → ℕ → List ℕ → Request
-said family setting m = cond (isKnown family setting) (cond (eqb family 4) (request4 m) (request6 m)) (refusedWith unknownSetting)
+said family setting m = cond (isKnown family setting) (cond (eqb family 4) (request4 m) (request6 m)) (refusedRequest unknownSetting)
 
 -- ---- the choice
 
@@ -79,6 +79,6 @@ writingAnswer family setting m site out = answerBy (writingRefusal family settin
 unfoldable pub writingOutput : ℕ → ℕ → List ℕ → List ℕ → List ℕ → List ℕ
 writingOutput family setting m site out = outputBy (writingRefusal family setting m site out) (dhcidOf m site (said family setting m) (choose family setting m site)) out
 
-pub record Puts (family setting : ℕ) (m site out : List ℕ) (answer : Answer) (left : List ℕ) : Type 0 where
+pub record PutsDhcid (family setting : ℕ) (m site out : List ℕ) (answer : Answer) (left : List ℕ) : Type 0 where
   pub answers : answer ≡ writingAnswer family setting m site out
   pub leaves : left ≡ writingOutput family setting m site out

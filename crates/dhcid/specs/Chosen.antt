@@ -1,11 +1,12 @@
 -- Which name a request gets. Document 01, "Names", last paragraph; "Refusal numbers", 9 and 12.
-use Prim.Native.Nat.{ℕ, _+_, _*_, _^_}
+use Prim.Native.Nat.{ℕ, _+_, _*_, _/_, _%_, _^_}
 use mathlib.Core.Bool.{Bool, true, false, cond}
 use mathlib.Core.Path.{_≡_}
 use mathlib.Core.Logic.{_⊎_}
 use mathlib.Core.List.{List}
 use lib.Dec.{eqb}
 use lib.ListN.{length}
+use Rattle.base.specs.Answer.{value}
 use Rattle.base.specs.Family.{KnownFamily}
 use Rattle.base.specs.Refusal.{noProperName, unknownSetting}
 use Rattle.base.specs.declared.Answer.{Answer}
@@ -71,12 +72,23 @@ sourceNumber false = 0
 sourceNumber true = 1
 
 abbrev pub answerBy : ℕ → ℕ → Answer
-answerBy n value = cond (eqb n 0) (Accepted value) (Refused n 0)
+answerBy n v = cond (eqb n 0) (Accepted v) (Refused n 0)
 
--- the source in bits 30 and 31, the start in bits 8 to 29, the length in bits 0 to 7; or the refusal
-unfoldable pub placeAnswer : Chosen → Answer
-placeAnswer c = answerBy (c .refusal) (sourceNumber (c .«from_site») * 2 ^ 30 + c .part .start * 2 ^ 8 + c .part .len)
+-- where a name stands as one number: the source in bits 30 and 31, the start in bits 8 to 29, the length in bits 0 to 7
+unfoldable pub packedName : Bool → Part → ℕ
+packedName fromSite p = sourceNumber fromSite * 2 ^ 30 + p .start * 2 ^ 8 + p .len
+
+-- that, or the refusal
+unfoldable pub nameAnswer : Chosen → Answer
+nameAnswer c = answerBy (c .refusal) (packedName (c .«from_site») (c .part))
+
+-- C takes the value of the answer a apart, by the three helpers of include/vichrelka.h: value >> 30, value >> 8 & 0x3fffff, value & 0xff. They give the source,
+-- the start and the length of the choice c; a choice that is none has zeros
+pub record NameApart (a : Answer) (c : Chosen) : Type 0 where
+  pub source : value a / 2 ^ 30 ≡ sourceNumber (c .«from_site»)
+  pub start : value a / 2 ^ 8 % 2 ^ 22 ≡ c .part .start
+  pub len : value a % 2 ^ 8 ≡ c .part .len
 
 -- what the call for the chosen name answers
 unfoldable pub Names : ℕ → ℕ → List ℕ → List ℕ → Answer → Type 0
-Names family setting m site a = (c : Chosen) × Chooses family setting m site c × (a ≡ placeAnswer c)
+Names family setting m site a = (c : Chosen) × Chooses family setting m site c × (a ≡ nameAnswer c)

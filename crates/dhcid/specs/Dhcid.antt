@@ -24,11 +24,11 @@ unfoldable pub dhcidOf : List ℕ → List ℕ → Request → Chosen → List �
 dhcidOf m site r c = dhcid (r .«id_type») (identifierBytes m r) (nameBytes m site c)
 
 -- what is answered, and what the output then holds: the refusals of the choice, then 14, then 13, with the output as it was; else 35 bytes in its beginning
-pub data Writes (family setting : ℕ) (m site out : List ℕ) : Answer → List ℕ → Type 0 where
-  no-name : {c : Chosen} → Chooses family setting m site c → (c .refusal ≡ 0 → ⊥) → Writes family setting m site out (Refused (c .refusal) 0) out
+pub data WritesDhcid (family setting : ℕ) (m site out : List ℕ) : Answer → List ℕ → Type 0 where
+  no-name : {c : Chosen} → Chooses family setting m site c → (c .refusal ≡ 0 → ⊥) → WritesDhcid family setting m site out (Refused (c .refusal) 0) out
   too-much : {r : Request} {c : Chosen} → Says family m r → Chooses family setting m site c → c .refusal ≡ 0
-      → 4096 < length (identifierBytes m r) + length (nameBytes m site c) → Writes family setting m site out (Refused hashInputLong 0) out
+      → 4096 < length (identifierBytes m r) + length (nameBytes m site c) → WritesDhcid family setting m site out (Refused hashInputLong 0) out
   no-room : {r : Request} {c : Chosen} → Says family m r → Chooses family setting m site c → c .refusal ≡ 0
-      → length (identifierBytes m r) + length (nameBytes m site c) ≤ 4096 → length out < 35 → Writes family setting m site out (Refused outputShort 0) out
+      → length (identifierBytes m r) + length (nameBytes m site c) ≤ 4096 → length out < 35 → WritesDhcid family setting m site out (Refused outputShort 0) out
   written : {r : Request} {c : Chosen} → Says family m r → Chooses family setting m site c → c .refusal ≡ 0
-      → length (identifierBytes m r) + length (nameBytes m site c) ≤ 4096 → 35 ≤ length out → Writes family setting m site out (Accepted 35) (overlay out 0 (dhcidOf m site r c))
+      → length (identifierBytes m r) + length (nameBytes m site c) ≤ 4096 → 35 ≤ length out → WritesDhcid family setting m site out (Accepted 35) (overlay out 0 (dhcidOf m site r c))

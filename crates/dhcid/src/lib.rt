@@ -25,7 +25,7 @@ ghost use Rattle.hash.specs.Sha256.{sha256};
 ghost use Rattle.hash.specs.State.{StateOf};
 ghost use Rattle.name.specs.Name as names;
 ghost use Rattle.message.specs.Request.{Inside, identifierBytes};
-ghost use Rattle.dhcid.specs.Chosen.{noChoice, among, sourceNumber, placeAnswer};
+ghost use Rattle.dhcid.specs.Chosen.{noChoice, among, packedName, nameAnswer};
 ghost use Rattle.dhcid.specs.Handing.{PartOf, HandsOn};
 ghost use Rattle.dhcid.specs.Choosing as spec;
 
@@ -177,18 +177,18 @@ pub fn chosen_name<'a>(family: u32, setting: u32, message: &'a [u8], site: &'a [
 // The source in bits 30 and 31, the start in bits 8 to 29, the length in bits 0 to 7.
 fn packed(from_site: bool, part: Part) -> u32
     requires { ⌜ (part .start ≤ 2048) × (part .len ≤ 255) ⌝ }
-    ensures { λ r. ⌜ r ≡ sourceNumber «from_site» * 2 ^ 30 + part .start * 2 ^ 8 + part .len ⌝ }
+    ensures { λ r. ⌜ r ≡ packedName «from_site» part ⌝ }
 {
-    let place = part.start as u32 * 256 + part.len as u32;
+    let packed = part.start as u32 * 256 + part.len as u32;
     if from_site {
-        return FROM_SITE + place;
+        return FROM_SITE + packed;
     }
-    place
+    packed
 }
 
 // Where the chosen name stands, as one number.
-pub fn place(family: u32, setting: u32, message: &[u8], site: &[u8]) -> Answer
-    ensures { λ r. ⌜ r ≡ placeAnswer (spec.choose family setting (now (message .entry)) (now (site .entry))) ⌝ }
+pub fn locate(family: u32, setting: u32, message: &[u8], site: &[u8]) -> Answer
+    ensures { λ r. ⌜ r ≡ nameAnswer (spec.choose family setting (now (message .entry)) (now (site .entry))) ⌝ }
 {
     let chosen = choose(family, setting, message, site);
     if chosen.refusal != 0 {
@@ -269,7 +269,7 @@ pub fn put_dhcid<'a>(
     site: &'a [u8],
     out: &mut [u8],
 ) -> Answer
-    ensures { λ r. ⌜ spec.Puts family setting (now (message .entry)) (now (site .entry)) (now (out .entry)) r (now (out .exit)) ⌝ }
+    ensures { λ r. ⌜ spec.PutsDhcid family setting (now (message .entry)) (now (site .entry)) (now (out .entry)) r (now (out .exit)) ⌝ }
 {
     let request = read(family, setting, message);
     let chosen = pick(setting, request, message, site);

@@ -20,8 +20,8 @@ abbrev pub noPart : Part
 noPart = record { start = 0; len = 0 }
 
 -- on a refusal all else is zero
-unfoldable pub refusedWith : ℕ → Request
-refusedWith n = record { refusal = n; «id_type» = 0; «id_head» = noPart; id = noPart; «has_name» = false; name = noPart }
+unfoldable pub refusedRequest : ℕ → Request
+refusedRequest n = record { refusal = n; «id_type» = 0; «id_head» = noPart; id = noPart; «has_name» = false; name = noPart }
 
 -- ---- the identifier
 
@@ -50,5 +50,5 @@ accepted i name = record { refusal = 0; «id_type» = i .type; «id_head» = i .
 
 -- 8 where there is no identifier
 abbrev pub identified : Option Identifier → Option Part → Request
-identified none name = refusedWith noIdentifier
+identified none name = refusedRequest noIdentifier
 identified (some i) name = accepted i name

@@ -2,7 +2,7 @@
 pub mod seen;
 
 ghost use mathlib.Core.Path.{_≡_};
-ghost use Rattle.message.specs.Request.{refusedWith};
+ghost use Rattle.message.specs.Request.{refusedRequest};
 
 // A part of the message: where it starts, and how many bytes it has.
 pub struct Part {
@@ -26,7 +26,7 @@ pub struct Request {
 
 // A refusal.
 pub fn refused(number: u32) -> Request
-    ensures { λ r. ⌜ r ≡ refusedWith number ⌝ }
+    ensures { λ r. ⌜ r ≡ refusedRequest number ⌝ }
 {
     Request {
         refusal: number,

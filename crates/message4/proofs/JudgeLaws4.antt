@@ -11,7 +11,7 @@ use borrow.Author.Tests.{le-leb, eqb-true, ne-eqb}
 use Rattle.base.specs.Logic.{Every, firstOf}
 use Rattle.base.specs.Refusal.{optionRepeated, optionOverload, notARequest}
 use Rattle.message.specs.Options.{Located, having, isRepeated, optionOf}
-use Rattle.message.specs.Request.{bytesOf, refusedWith, accepted, identified, Identifier}
+use Rattle.message.specs.Request.{bytesOf, refusedRequest, accepted, identified, Identifier}
 use Rattle.message.specs.Seen.{partOf, seenOf, met}
 use Rattle.message.specs.declared.Part.{Part}
 use Rattle.message.specs.declared.seen.Seen.{Seen}
@@ -123,17 +123,17 @@ module _ (m : List ℕ) (ls : List Located) (h : Every (DataIn m) ls) where
 
 module _ (m : List ℕ) (w : Wanted) where
   pub judged-repeated : (w .overload .again || w .«message_type» .again || w .«client_id» .again || w .«client_fqdn» .again) ≡ true
-      → refusedWith optionRepeated ≡ judgedBy m w
+      → refusedRequest optionRepeated ≡ judgedBy m w
   unfolding judgedBy
   judged-repeated e = rw e
 
   module _ (once : (w .overload .again || w .«message_type» .again || w .«client_id» .again || w .«client_fqdn» .again) ≡ false) where
-    pub judged-overload : w .overload .found ≡ true → refusedWith optionOverload ≡ judgedBy m w
+    pub judged-overload : w .overload .found ≡ true → refusedRequest optionOverload ≡ judgedBy m w
     unfolding judgedBy
     judged-overload e = rw (once, e)
 
     module _ (whole : w .overload .found ≡ false) where
-      pub judged-other : isRequest (dataOf m 53 (w .«message_type»)) ≡ false → refusedWith notARequest ≡ judgedBy m w
+      pub judged-other : isRequest (dataOf m 53 (w .«message_type»)) ≡ false → refusedRequest notARequest ≡ judgedBy m w
       unfolding judgedBy
       judged-other e = rw (once, whole, e)
 

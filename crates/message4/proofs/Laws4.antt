@@ -13,7 +13,7 @@ use borrow.Author.Tests.{le-leb, lt-leb, eqb-true, eq-eqb, ne-eqb}
 use Rattle.base.specs.Logic.{Every}
 use Rattle.base.specs.Refusal.{notBootrequest, hardwareAddressLength}
 use Rattle.base.proofs.Tests.{by-ltb, and-left, and-right, within, under, over}
-use Rattle.message.specs.Request.{refusedWith}
+use Rattle.message.specs.Request.{refusedRequest}
 use Rattle.message.specs.declared.Request.{Request}
 use Rattle.message4.specs.Options4.{Field4, pad, option, bytes4, Code4, written4, Options4}
 use Rattle.message4.specs.Message4.{Bootrequest, hlen, Header4, Reads4}
@@ -235,11 +235,11 @@ answer-reads m = by-ltb (length m) 240 short (λ low. by-ltb 2048 (length m) lon
 
 -- the function by the tests that it makes
 module _ (m : List ℕ) (low : 240 ≤ length m) (high : length m ≤ 2048) where
-  pub answer-no-bootrequest : isBootrequest m ≡ false → refusedWith notBootrequest ≡ request4 m
+  pub answer-no-bootrequest : isBootrequest m ≡ false → refusedRequest notBootrequest ≡ request4 m
   unfolding request4
   answer-no-bootrequest e = rw (within 240 (length m) 2048 low high, e)
 
-  pub answer-long-address : isBootrequest m ≡ true → 16 < hlen m → refusedWith hardwareAddressLength ≡ request4 m
+  pub answer-long-address : isBootrequest m ≡ true → 16 < hlen m → refusedRequest hardwareAddressLength ≡ request4 m
   unfolding request4
   answer-long-address e over = rw (within 240 (length m) 2048 low high, e, lt-leb (hlen m) 16 over)
 

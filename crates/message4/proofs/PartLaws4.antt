@@ -12,7 +12,7 @@ use lib.Seq.{getD-take, getD-drop}
 use borrow.Author.Tests.{le-leb, lt-leb, leb-true, eq-eqb, ne-eqb}
 use Rattle.base.proofs.Tests.{and-left, and-right}
 use Rattle.base.specs.Refusal.{noIdentifier}
-use Rattle.message.specs.Request.{bytesOf, Inside, noPart, refusedWith}
+use Rattle.message.specs.Request.{bytesOf, Inside, noPart, refusedRequest}
 use Rattle.message.specs.declared.Part.{Part}
 use Rattle.message.specs.declared.seen.Seen.{Seen}
 use Rattle.message.proofs.PartLaws.{part-length}
@@ -105,7 +105,7 @@ module _ (m : List ℕ) (s : Seen) where
 
 module _ (m : List ℕ) (s : Seen) (n : Name) where
   module _ (f : s .found ≡ false) where
-    pub no-hardware : hlen m ≡ 0 → refusedWith noIdentifier ≡ identifiedAs (identifier4 m (dataOf m 61 s)) n
+    pub no-hardware : hlen m ≡ 0 → refusedRequest noIdentifier ≡ identifiedAs (identifier4 m (dataOf m 61 s)) n
     no-hardware h = rw (f, eq-eqb (hlen m) 0 h)
 
     pub by-hardware : (hlen m ≡ 0 → ⊥)
@@ -118,7 +118,7 @@ module _ (m : List ℕ) (s : Seen) (n : Name) where
     by-duid d = rw (f, d, part-length m (s .part) fits)
 
     module _ (d : hasDuid (dataAt m 61 (s .part)) ≡ false) where
-      pub too-short : s .part .len < 2 → refusedWith noIdentifier ≡ identifiedAs (identifier4 m (dataOf m 61 s)) n
+      pub too-short : s .part .len < 2 → refusedRequest noIdentifier ≡ identifiedAs (identifier4 m (dataOf m 61 s)) n
       too-short h = rw (f, d, part-length m (s .part) fits, lt-leb 2 (s .part .len) h)
 
       pub by-all : 2 ≤ s .part .len → acceptedAs (record { type = 1; head = noPart; rest = s .part }) n ≡ identifiedAs (identifier4 m (dataOf m 61 s)) n

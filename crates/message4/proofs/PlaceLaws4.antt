@@ -13,7 +13,7 @@ use Rattle.base.specs.Logic.{Every, IfSome, firstOf}
 use Rattle.base.proofs.Lists.{drop-head, drop-next, every-at}
 use Rattle.base.proofs.Tests.{and-left, and-right}
 use Rattle.message.specs.Options.{Located, having, isRepeated, optionOf}
-use Rattle.message.specs.Request.{bytesOf, Inside, refusedWith, noPart, Identifier, identifierBytes, namePart, accepted, identified}
+use Rattle.message.specs.Request.{bytesOf, Inside, refusedRequest, noPart, Identifier, identifierBytes, namePart, accepted, identified}
 use Rattle.message.specs.declared.Part.{Part}
 use Rattle.message.specs.declared.Request.{Request}
 use Rattle.message.proofs.PartLaws.{part-length}
@@ -144,7 +144,7 @@ module _ (m : List ℕ) where
   Sound r = r .refusal ≡ 0 → Placed m r
 
   identified-sound : (i : Option Identifier) (n : Option Part) → IfSome IdPlaced i → IfSome (Inside m) n → Sound (identified i n)
-  unfolding Sound refusedWith accepted
+  unfolding Sound refusedRequest accepted
   identified-sound none n h k e = absurd (omega arith)
   identified-sound (some i) n h k e =
       let size = accepted-length i n h in
@@ -157,8 +157,8 @@ module _ (m : List ℕ) where
         duid = λ z. let d = h .duid z in (omega (arith, size), omega (arith, size));
       }
 
-  refused-sound : (n : ℕ) → 1 ≤ n → Sound (refusedWith n)
-  unfolding Sound refusedWith
+  refused-sound : (n : ℕ) → 1 ≤ n → Sound (refusedRequest n)
+  unfolding Sound refusedRequest
   refused-sound n h e = absurd (omega arith)
 
   either-sound : (t : Bool) (a b : Request) → Sound a → Sound b → Sound (cond t a b)

@@ -11,7 +11,7 @@ use Rattle.base.specs.Logic.{Every}
 use Rattle.base.specs.Refusal.{optionsMalformed}
 use Rattle.base.proofs.Lists.{every-append, every-at}
 use Rattle.message.specs.Options.{Located}
-use Rattle.message.specs.Request.{refusedWith}
+use Rattle.message.specs.Request.{refusedRequest}
 use Rattle.message4.specs.Options4.{Field4, pad, option, located4}
 use Rattle.message4.specs.Reading4.{before, fieldsAfter, fields4, placed, options4, byOptions, afterHeader4}
 use Rattle.message4.specs.Judging4.{wantedOf, noted, WantedInside, DataIn, judgedBy}
@@ -109,7 +109,7 @@ module _ (m : List ℕ) (i : ℕ) (w : Wanted) (p : Passed m i w) where
   passed-inside = rw (p .kept) (wanted-inside m (p .done) (p .inside))
 
   -- no End up to the message's end
-  pub no-end : length m ≤ i → refusedWith optionsMalformed ≡ afterHeader4 m
+  pub no-end : length m ≤ i → refusedRequest optionsMalformed ≡ afterHeader4 m
   no-end h = sym (found-here none (ap (options4 i) (drop-of-length-le m h) ∙ options-none i))
 
   module _ (within : i < length m) where
@@ -137,7 +137,7 @@ module _ (m : List ℕ) (i : ℕ) (w : Wanted) (p : Passed m i w) where
 
     module _ (low : 1 ≤ getD m i 0) (high : getD m i 0 ≤ 254) where
       -- the message ends after the code
-      pub no-length : length m ≤ i + 1 → refusedWith optionsMalformed ≡ afterHeader4 m
+      pub no-length : length m ≤ i + 1 → refusedRequest optionsMalformed ≡ afterHeader4 m
       no-length h =
           sym
           (found-here none
@@ -155,7 +155,7 @@ module _ (m : List ℕ) (i : ℕ) (w : Wanted) (p : Passed m i w) where
         long : length (drop (i + 2) m) ≡ length m - (i + 2)
         long = length-drop (i + 2) m
 
-        pub past-end : length m < i + 2 + n → refusedWith optionsMalformed ≡ afterHeader4 m
+        pub past-end : length m < i + 2 + n → refusedRequest optionsMalformed ≡ afterHeader4 m
         past-end h =
             sym (found-here none (ap (options4 i) here ∙ options-past i (getD m i 0) low high n (drop (i + 2) m) (omega (arith, long))))
 

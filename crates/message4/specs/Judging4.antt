@@ -9,7 +9,7 @@ use lib.ListN.{length, take, drop}
 use Rattle.base.specs.Logic.{Every}
 use Rattle.base.specs.Refusal.{optionRepeated, optionOverload, notARequest, noIdentifier}
 use Rattle.message.specs.Options.{Located, having}
-use Rattle.message.specs.Request.{bytesOf, Inside, refusedWith, Identifier, hasName, namePart}
+use Rattle.message.specs.Request.{bytesOf, Inside, refusedRequest, Identifier, hasName, namePart}
 use Rattle.message.specs.Seen.{seenOf, met}
 use Rattle.message.specs.declared.Part.{Part}
 use Rattle.message.specs.declared.Request.{Request}
@@ -72,13 +72,13 @@ abbrev pub acceptedAs : Identifier → Name → Request
 acceptedAs i name = record { refusal = 0; «id_type» = i .type; «id_head» = i .head; id = i .rest; «has_name» = name .given; name = name .part }
 
 abbrev pub identifiedAs : Option Identifier → Name → Request
-identifiedAs none name = refusedWith noIdentifier
+identifiedAs none name = refusedRequest noIdentifier
 identifiedAs (some i) name = acceptedAs i name
 
 unfoldable pub judgedBy : List ℕ → Wanted → Request
 judgedBy m w =
-    cond (w .overload .again || w .«message_type» .again || w .«client_id» .again || w .«client_fqdn» .again) (refusedWith optionRepeated)
-    (cond (w .overload .found) (refusedWith optionOverload)
+    cond (w .overload .again || w .«message_type» .again || w .«client_id» .again || w .«client_fqdn» .again) (refusedRequest optionRepeated)
+    (cond (w .overload .found) (refusedRequest optionOverload)
     (cond (isRequest (dataOf m 53 (w .«message_type»)))
     (identifiedAs (identifier4 m (dataOf m 61 (w .«client_id»))) (asName (name4 (dataOf m 81 (w .«client_fqdn»)))))
-    (refusedWith notARequest)))
+    (refusedRequest notARequest)))

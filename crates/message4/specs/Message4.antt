@@ -8,7 +8,7 @@ use lib.Dec.{leb, eqb}
 use lib.ListN.{length, getD, take, drop}
 use Rattle.base.specs.Refusal.{messageLength, notBootrequest, hardwareAddressLength, optionsMalformed, optionRepeated, optionOverload, notARequest}
 use Rattle.message.specs.Options.{Located, having, isRepeated, optionOf}
-use Rattle.message.specs.Request.{refusedWith, noPart, Identifier, identified}
+use Rattle.message.specs.Request.{refusedRequest, noPart, Identifier, identified}
 use Rattle.message.specs.declared.Part.{Part}
 use Rattle.message.specs.declared.Request.{Request}
 use Rattle.message4.specs.Options4.{Field4, Options4, located4}
@@ -61,17 +61,17 @@ name4 (some l) = cond (hasWireName l) (some (record { start = l .start + 3; len 
 -- the options' refusals in their order, 5, 6, 7, 8; else the request
 unfoldable pub judge4 : List ℕ → List Located → Request
 judge4 m ls =
-    cond (isRepeated 52 ls || isRepeated 53 ls || isRepeated 61 ls || isRepeated 81 ls) (refusedWith optionRepeated)
-    (cond (leb 1 (length (having 52 ls))) (refusedWith optionOverload)
-    (cond (isRequest (optionOf 53 ls)) (identified (identifier4 m (optionOf 61 ls)) (name4 (optionOf 81 ls))) (refusedWith notARequest)))
+    cond (isRepeated 52 ls || isRepeated 53 ls || isRepeated 61 ls || isRepeated 81 ls) (refusedRequest optionRepeated)
+    (cond (leb 1 (length (having 52 ls))) (refusedRequest optionOverload)
+    (cond (isRequest (optionOf 53 ls)) (identified (identifier4 m (optionOf 61 ls)) (name4 (optionOf 81 ls))) (refusedRequest notARequest)))
 
 -- ---- the whole message
 
 -- the message m is answered with r: 1, 2, 3 and 4 in this order, and then what the options say
 pub data Reads4 (m : List ℕ) : Request → Type 0 where
-  too-short : length m < 240 → Reads4 m (refusedWith messageLength)
-  too-long : 2048 < length m → Reads4 m (refusedWith messageLength)
-  no-bootrequest : 240 ≤ length m → length m ≤ 2048 → (Bootrequest m → ⊥) → Reads4 m (refusedWith notBootrequest)
-  long-address : 240 ≤ length m → length m ≤ 2048 → Bootrequest m → 16 < hlen m → Reads4 m (refusedWith hardwareAddressLength)
-  malformed : Header4 m → ((fs : List Field4) → Options4 (drop 240 m) fs → ⊥) → Reads4 m (refusedWith optionsMalformed)
+  too-short : length m < 240 → Reads4 m (refusedRequest messageLength)
+  too-long : 2048 < length m → Reads4 m (refusedRequest messageLength)
+  no-bootrequest : 240 ≤ length m → length m ≤ 2048 → (Bootrequest m → ⊥) → Reads4 m (refusedRequest notBootrequest)
+  long-address : 240 ≤ length m → length m ≤ 2048 → Bootrequest m → 16 < hlen m → Reads4 m (refusedRequest hardwareAddressLength)
+  malformed : Header4 m → ((fs : List Field4) → Options4 (drop 240 m) fs → ⊥) → Reads4 m (refusedRequest optionsMalformed)
   judged : {fs : List Field4} → Header4 m → Options4 (drop 240 m) fs → Reads4 m (judge4 m (located4 240 fs))

@@ -8,7 +8,7 @@ use lib.Dec.{leb, eqb}
 use lib.ListN.{length, getD, take, drop}
 use Rattle.base.specs.Refusal.{messageLength, notBootrequest, hardwareAddressLength, optionsMalformed}
 use Rattle.message.specs.Options.{Located}
-use Rattle.message.specs.Request.{refusedWith}
+use Rattle.message.specs.Request.{refusedRequest}
 use Rattle.message.specs.declared.Request.{Request}
 use Rattle.message4.specs.Options4.{Field4, pad, option, located4}
 use Rattle.message4.specs.Message4.{hlen, judge4}
@@ -53,7 +53,7 @@ unfoldable pub isBootrequest : List ℕ → Bool
 isBootrequest m = eqb (getD m 0 0) 1 && eqb (getD m 236 0) 99 && eqb (getD m 237 0) 130 && eqb (getD m 238 0) 83 && eqb (getD m 239 0) 99
 
 abbrev pub byOptions : List ℕ → Option (List Located) → Request
-byOptions m none = refusedWith optionsMalformed
+byOptions m none = refusedRequest optionsMalformed
 byOptions m (some ls) = judge4 m ls
 
 -- the answer, of a message whose header is right
@@ -64,6 +64,6 @@ unfoldable pub request4 : List ℕ → Request
 request4 m =
     cond (leb 240 (length m) && leb (length m) 2048)
     (cond (isBootrequest m)
-    (cond (leb (hlen m) 16) (afterHeader4 m) (refusedWith hardwareAddressLength))
-    (refusedWith notBootrequest))
-    (refusedWith messageLength)
+    (cond (leb (hlen m) 16) (afterHeader4 m) (refusedRequest hardwareAddressLength))
+    (refusedRequest notBootrequest))
+    (refusedRequest messageLength)

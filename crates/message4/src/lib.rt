@@ -78,11 +78,11 @@ const CLIENT_IDENTIFIER: u16 = 1;
 const DUID: u16 = 2;
 
 // What was seen of the options that a request is judged by.
-pub struct Wanted {
-    pub overload: Seen,
-    pub message_type: Seen,
-    pub client_id: Seen,
-    pub client_fqdn: Seen,
+struct Wanted {
+    overload: Seen,
+    message_type: Seen,
+    client_id: Seen,
+    client_fqdn: Seen,
 }
 
 // The name that the client asks for; zeros where it asks for none.

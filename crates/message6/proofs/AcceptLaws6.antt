@@ -13,14 +13,14 @@ use Rattle.base.specs.Logic.{Every, firstOf}
 use Rattle.base.specs.Refusal.{optionRepeated}
 use Rattle.base.proofs.Tests.{and-left, and-right}
 use Rattle.message.specs.Options.{Located, having, isRepeated, optionOf}
-use Rattle.message.specs.Request.{bytesOf, noPart, refusedWith, identifierBytes, Identifier, hasName, namePart, accepted, identified}
+use Rattle.message.specs.Request.{bytesOf, noPart, refusedRequest, identifierBytes, Identifier, hasName, namePart, accepted, identified}
 use Rattle.message.specs.Seen.{partOf}
 use Rattle.message.specs.declared.Part.{Part}
 use Rattle.message.specs.declared.Request.{Request}
 use Rattle.message6.specs.Options6.{Option6, Options6, located6}
 use Rattle.message.proofs.RequestLaws.{refused-not}
 use Rattle.message6.specs.Message6.{relayForward, header, Filled, identifier6, name6, judge6, Level, Reads6}
-use Rattle.message6.specs.Reading6.{part}
+use Rattle.message6.specs.Walking6.{part}
 use Rattle.message6.proofs.LevelLaws6.{relay-header, request-header}
 use Rattle.message6.proofs.PassLaws6.{part-all, drop-part}
 use Rattle.message6.proofs.StandLaws6.{Stands, options-stand, every-having}
@@ -146,7 +146,7 @@ module _ (m : List ℕ) (at end : ℕ) (within : end ≤ length m) where
       said : Request
       said = identified (identifier6 (firstOf (having 1 ls))) (name6 (firstOf (having 39 ls)))
 
-      go : (t : Bool) → cond t (refusedWith optionRepeated) said .refusal ≡ 0 → Sound m (cond t (refusedWith optionRepeated) said)
+      go : (t : Bool) → cond t (refusedRequest optionRepeated) said .refusal ≡ 0 → Sound m (cond t (refusedRequest optionRepeated) said)
       go true z = absurd (refused-not 4 z)
       go false z = said-sound (having 1 ls) (having 39 ls) (every-having 1 ls h) (every-having 39 ls h) z
 

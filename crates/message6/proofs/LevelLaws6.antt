@@ -10,7 +10,7 @@ use lib.ListN.{length, drop}
 use borrow.Author.Tests.{ltb-true, ltb-false, lt-ltb, le-ltb, leb-true, le-leb, eqb-true}
 use Rattle.base.specs.Refusal.{messageLength, optionsMalformed, optionRepeated, notARequest, tooManyRelays}
 use Rattle.message.specs.Options.{Located, having, isRepeated}
-use Rattle.message.specs.Request.{refusedWith}
+use Rattle.message.specs.Request.{refusedRequest}
 use Rattle.message.specs.declared.Request.{Request}
 use Rattle.message6.specs.Options6.{Option6, located6}
 use Rattle.message6.specs.Message6.{isRequestType, relayForward, header, Filled, Level, Reads6}
@@ -83,7 +83,7 @@ module _ (relaying : Option (List Located) → Request) (at : ℕ) (b : List ℕ
   unfolding typed
   typed-relay = rw relay-no-request
 
-  pub typed-other : (type : ℕ) → isRequestType type ≡ false → eqb type relayForward ≡ false → typed relaying at (type ∷ b) ≡ refusedWith notARequest
+  pub typed-other : (type : ℕ) → isRequestType type ≡ false → eqb type relayForward ≡ false → typed relaying at (type ∷ b) ≡ refusedRequest notARequest
   unfolding typed
   typed-other type request other = rw (request, other)
 
@@ -93,7 +93,7 @@ inside n l = level n (l .start) (l .bytes)
 
 -- what a relay's options come to where n relays are still allowed
 abbrev pub relaying : ℕ → Option (List Located) → Request
-relaying zero os = refusedWith tooManyRelays
+relaying zero os = refusedRequest tooManyRelays
 relaying (suc n) os = relay (inside n) os
 
 pub level-typed : (n at : ℕ) (b : List ℕ) → level n at b ≡ typed (relaying n) at b
@@ -104,7 +104,7 @@ level-typed (suc n) at b = refl
 -- ---- what a relay passes on
 
 module _ (inner : Located → Request) where
-  relay-none : (ls : List Located) → having 9 ls ≡ [] → relay inner (some ls) ≡ refusedWith optionsMalformed
+  relay-none : (ls : List Located) → having 9 ls ≡ [] → relay inner (some ls) ≡ refusedRequest optionsMalformed
   unfolding relay single
   relay-none ls e = rw e
 
@@ -112,13 +112,13 @@ module _ (inner : Located → Request) where
   unfolding relay single
   relay-one ls l e = rw e
 
-  twice : (ks : List Located) → ltb 1 (length ks) ≡ true → single inner ks ≡ refusedWith optionRepeated
+  twice : (ks : List Located) → ltb 1 (length ks) ≡ true → single inner ks ≡ refusedRequest optionRepeated
   unfolding single
   twice [] e = let f : 1 < 0 = ltb-true 1 0 e in absurd (omega arith)
   twice (l ∷ []) e = let f : 1 < 1 = ltb-true 1 1 e in absurd (omega arith)
   twice (l ∷ k ∷ ks) e = refl
 
-  relay-twice : (ls : List Located) → isRepeated 9 ls ≡ true → relay inner (some ls) ≡ refusedWith optionRepeated
+  relay-twice : (ls : List Located) → isRepeated 9 ls ≡ true → relay inner (some ls) ≡ refusedRequest optionRepeated
   unfolding relay isRepeated
   relay-twice ls e = twice (having 9 ls) e
 
@@ -129,7 +129,7 @@ relay-found : (at : ℕ) (b : List ℕ) (os : List Option6) → Filled relayForw
 relay-found at b os h = filled-found relayForward at (relayForward ∷ b) os h ∙ ap (λ (n : ℕ). some (located6 (at + n) os)) relay-header
 
 module _ (k at : ℕ) (b : List ℕ) where
-  level-ninth : 8 ≤ k → level (8 - k) at (relayForward ∷ b) ≡ refusedWith tooManyRelays
+  level-ninth : 8 ≤ k → level (8 - k) at (relayForward ∷ b) ≡ refusedRequest tooManyRelays
   level-ninth h =
       let none-left : 8 - k ≡ 0 = omega arith in
       ap (λ (n : ℕ). level n at (relayForward ∷ b)) none-left ∙ level-typed 0 at (relayForward ∷ b) ∙ typed-relay (relaying 0) at b
@@ -205,7 +205,7 @@ typed-level k at f relays [] = Level.no-bytes
 typed-level k at f relays (type ∷ b) = go (isRequestType type) (eqb type relayForward) refl refl
   where
     go : (p q : Bool) → isRequestType type ≡ p → eqb type relayForward ≡ q
-        → Level k at (type ∷ b) (cond p (client (optionsOf type at (type ∷ b))) (cond q (f (optionsOf relayForward at (type ∷ b))) (refusedWith notARequest)))
+        → Level k at (type ∷ b) (cond p (client (optionsOf type at (type ∷ b))) (cond q (f (optionsOf relayForward at (type ∷ b))) (refusedRequest notARequest)))
     go true q request e = client-level k at b type request
     go false true request e =
         subst (λ (x : ℕ). Level k at (x ∷ b) (f (optionsOf relayForward at (x ∷ b)))) (sym (eqb-true type relayForward e)) (relays b)
@@ -231,7 +231,7 @@ module _ (m : List ℕ) where
   unfolding request6
   reads-request = go (ltb (length m) 4) (ltb 2048 (length m)) refl refl
     where
-      go : (p q : Bool) → ltb (length m) 4 ≡ p → ltb 2048 (length m) ≡ q → Reads6 m (cond (p || q) (refusedWith messageLength) (level 8 0 m))
+      go : (p q : Bool) → ltb (length m) 4 ≡ p → ltb 2048 (length m) ≡ q → Reads6 m (cond (p || q) (refusedRequest messageLength) (level 8 0 m))
       go true q short long = Reads6.too-short (ltb-true (length m) 4 short)
       go false true short long = Reads6.too-long (ltb-true 2048 (length m) long)
       go false false short long = Reads6.levels (ltb-false (length m) 4 short) (ltb-false 2048 (length m) long) (level-level 8 0 0 m refl)

@@ -16,7 +16,8 @@ use Rattle.message.specs.Seen.{partOf, seenOf, met}
 use Rattle.message.specs.declared.Part.{Part}
 use Rattle.message.specs.declared.seen.Seen.{Seen}
 use Rattle.message.proofs.SeenLaws.{met-next, having-append}
-use Rattle.message6.specs.Reading6.{part, be16, optionAt, before, options6, nothingSeen, seenIn, levelSeen, levelMet}
+use Rattle.message6.specs.Reading6.{be16, optionAt, before, options6}
+use Rattle.message6.specs.Walking6.{part, nothingSeen, seenIn, levelSeen, levelMet}
 use Rattle.message6.specs.declared.LevelSeen.{LevelSeen}
 use Rattle.message6.proofs.OptionsLaws6.{option-test, options-end, options-short, options-past, options-more}
 

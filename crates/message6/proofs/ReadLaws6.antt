@@ -9,15 +9,16 @@ use lib.Dec.{eqb}
 use lib.ListN.{length, getD}
 use borrow.Author.Tests.{le-leb, lt-leb}
 use Rattle.base.specs.Refusal.{optionsMalformed, notARequest, tooManyRelays}
-use Rattle.message.specs.Request.{refusedWith}
+use Rattle.message.specs.Request.{refusedRequest}
 use Rattle.message.specs.declared.Request.{Request}
 use Rattle.message6.specs.Message6.{isRequestType, relayForward, header}
-use Rattle.message6.specs.Reading6.{part, options6, client, relay, optionsOf, typed, level, walked}
+use Rattle.message6.specs.Reading6.{options6, client, relay, optionsOf, typed, level}
+use Rattle.message6.specs.Walking6.{part, walked}
 use Rattle.message6.proofs.LevelLaws6.{relay-header, request-header, typed-client, typed-relay, typed-other, relaying, level-typed}
 use Rattle.message6.proofs.PassLaws6.{length-part, part-none, part-first, drop-part}
 
 module _ (m : List ℕ) (start end n : ℕ) where
-  pub level-empty : end ≤ start → refusedWith optionsMalformed ≡ level n start (part m start end)
+  pub level-empty : end ≤ start → refusedRequest optionsMalformed ≡ level n start (part m start end)
   unfolding typed
   level-empty h = sym (ap (level n start) (part-none m start end h) ∙ level-typed n start [])
 
@@ -45,7 +46,7 @@ module _ (m : List ℕ) (start end n : ℕ) where
     by-type type e = sym (part-first m start end more within ∙ ap (λ (x : ℕ). x ∷ part m (start + 1) end) e)
 
     module _ (type : ℕ) (is : getD m start 0 ≡ type) where
-      pub level-other : isRequestType type ≡ false → eqb type relayForward ≡ false → refusedWith notARequest ≡ level n start (part m start end)
+      pub level-other : isRequestType type ≡ false → eqb type relayForward ≡ false → refusedRequest notARequest ≡ level n start (part m start end)
       level-other request other = sym (level-by type is ∙ typed-other (relaying n) start (part m (start + 1) end) type request other)
 
       module _ (request : isRequestType type ≡ true) where
@@ -54,7 +55,7 @@ module _ (m : List ℕ) (start end n : ℕ) where
             level-by type is ∙ typed-client (relaying n) start (part m (start + 1) end) type request
             ∙ ap (λ (b : List ℕ). client (optionsOf type start b)) (by-type type is)
 
-        pub request-short : end < start + 4 → refusedWith optionsMalformed ≡ level n start (part m start end)
+        pub request-short : end < start + 4 → refusedRequest optionsMalformed ≡ level n start (part m start end)
         unfolding client
         request-short short = sym (level-request ∙ ap client (no-header type 4 (request-header type request) short))
 
@@ -69,10 +70,10 @@ module _ (m : List ℕ) (start end n : ℕ) where
           level-by relayForward is ∙ typed-relay (relaying n) start (part m (start + 1) end)
           ∙ ap (λ (b : List ℕ). relaying n (optionsOf relayForward start b)) (by-type relayForward is)
 
-      pub relay-ninth : n ≡ 0 → refusedWith tooManyRelays ≡ level n start (part m start end)
+      pub relay-ninth : n ≡ 0 → refusedRequest tooManyRelays ≡ level n start (part m start end)
       relay-ninth e = sym (level-relay ∙ ap (λ (k : ℕ). relaying k (optionsOf relayForward start (part m start end))) e)
 
-      pub relay-short : (k : ℕ) → n ≡ suc k → end < start + 34 → refusedWith optionsMalformed ≡ level n start (part m start end)
+      pub relay-short : (k : ℕ) → n ≡ suc k → end < start + 34 → refusedRequest optionsMalformed ≡ level n start (part m start end)
       unfolding relay
       relay-short k e short =
           sym

@@ -10,7 +10,7 @@ use lib.Seq.{take-at, drop-at, take-take}
 use Rattle.base.specs.Logic.{Every}
 use Rattle.message.specs.Options.{Located, having}
 use Rattle.message6.specs.Options6.{Option6, written6, Options6, located6}
-use Rattle.message6.specs.Reading6.{part}
+use Rattle.message6.specs.Walking6.{part}
 use Rattle.message6.proofs.OptionsLaws6.{written-first}
 use Rattle.message6.proofs.PassLaws6.{length-part, drop-part}
 

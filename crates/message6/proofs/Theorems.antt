@@ -11,7 +11,8 @@ use Rattle.message.specs.Seen.{partOf}
 use Rattle.message.specs.declared.Request.{Request}
 use Rattle.message6.specs.Options6.{Option6, Options6, located6}
 use Rattle.message6.specs.Message6.{judge6, Reads6}
-use Rattle.message6.specs.Reading6.{part, request6}
+use Rattle.message6.specs.Reading6.{request6}
+use Rattle.message6.specs.Walking6.{part}
 use Rattle.message6.proofs.OptionsLaws6.{options-one}
 use Rattle.message6.proofs.LevelLaws6.{request-reads, reads-request}
 use Rattle.message6.proofs.StandLaws6.{options-stand}

@@ -10,12 +10,13 @@ use borrow.Author.Tests.{ltb-true, ltb-false}
 use Rattle.base.specs.Logic.{Every}
 use Rattle.base.specs.Refusal.{optionsMalformed, optionRepeated}
 use Rattle.message.specs.Options.{Located, having}
-use Rattle.message.specs.Request.{refusedWith}
+use Rattle.message.specs.Request.{refusedRequest}
 use Rattle.message.specs.Seen.{partOf, seenOf}
 use Rattle.message.specs.declared.Part.{Part}
 use Rattle.message.specs.declared.Request.{Request}
 use Rattle.message.specs.declared.seen.Seen.{Seen}
-use Rattle.message6.specs.Reading6.{part, options6, nothingSeen, seenIn, levelSeen, judged, client, single, relay, level, walked}
+use Rattle.message6.specs.Reading6.{options6, client, single, relay, level}
+use Rattle.message6.specs.Walking6.{part, nothingSeen, seenIn, levelSeen, judged, walked}
 use Rattle.message6.specs.declared.LevelSeen.{LevelSeen}
 use Rattle.message6.proofs.OptionsLaws6.{found-options}
 use Rattle.message6.proofs.LevelLaws6.{inside}
@@ -25,7 +26,7 @@ use Rattle.message6.proofs.JudgeLaws6.{judged-seen}
 -- ---- the walker
 
 -- options that do not fill the level, of a relay or of the client
-walked-unfilled : (relaying : Bool) (n : ℕ) → refusedWith optionsMalformed ≡ walked relaying n none
+walked-unfilled : (relaying : Bool) (n : ℕ) → refusedRequest optionsMalformed ≡ walked relaying n none
 unfolding walked relay client
 walked-unfilled true n = refl
 walked-unfilled false n = refl
@@ -46,12 +47,12 @@ module _ (m : List ℕ) (start end : ℕ) where
 -- ---- the Relay Message option, by what was seen
 
 module _ (inner : Located → Request) where
-  single-none : (ks : List Located) → seenOf ks .found ≡ false → refusedWith optionsMalformed ≡ single inner ks
+  single-none : (ks : List Located) → seenOf ks .found ≡ false → refusedRequest optionsMalformed ≡ single inner ks
   unfolding single
   single-none [] e = refl
   single-none (l ∷ ks) e = absurd (true≢false e)
 
-  single-twice : (ks : List Located) → seenOf ks .again ≡ true → refusedWith optionRepeated ≡ single inner ks
+  single-twice : (ks : List Located) → seenOf ks .again ≡ true → refusedRequest optionRepeated ≡ single inner ks
   unfolding single
   single-twice [] e = absurd (false≢true e)
   single-twice (l ∷ []) e = let f : 0 < 0 = ltb-true 0 0 e in absurd (omega arith)
@@ -65,11 +66,11 @@ only-one (l ∷ k ∷ ks) e f = let few : length (k ∷ ks) ≤ 0 = ltb-false 0 
 -- ---- the walker's answers
 
 module _ (m : List ℕ) (start end : ℕ) (s : LevelSeen) (e : s ≡ levelSeen (options6 start (part m start end))) where
-  pub walked-malformed : (relaying : Bool) (n : ℕ) → s .filled ≡ false → refusedWith optionsMalformed ≡ walked relaying n (options6 start (part m start end))
+  pub walked-malformed : (relaying : Bool) (n : ℕ) → s .filled ≡ false → refusedRequest optionsMalformed ≡ walked relaying n (options6 start (part m start end))
   unfolding levelSeen seenIn
   walked-malformed relaying n f = go (options6 start (part m start end)) e
     where
-      go : (os : Option (List Located)) → s ≡ levelSeen os → refusedWith optionsMalformed ≡ walked relaying n os
+      go : (os : Option (List Located)) → s ≡ levelSeen os → refusedRequest optionsMalformed ≡ walked relaying n os
       go none e = walked-unfilled relaying n
       go (some ls) e = absurd (true≢false (sym (ap (λ (x : LevelSeen). x .filled) e) ∙ f))
 
@@ -111,11 +112,11 @@ module _ (m : List ℕ) (start end : ℕ) (s : LevelSeen) (e : s ≡ levelSeen (
     unfolding walked relay
     walked-single n = ap (relay (inside n)) (filling .found)
 
-    pub walked-nothing : (n : ℕ) → s .relayed .found ≡ false → refusedWith optionsMalformed ≡ walked true n (options6 start (part m start end))
+    pub walked-nothing : (n : ℕ) → s .relayed .found ≡ false → refusedRequest optionsMalformed ≡ walked true n (options6 start (part m start end))
     walked-nothing n f =
         single-none (inside n) (having 9 (filling .list)) (sym (ap (λ (x : Seen). x .found) relayed-is) ∙ f) ∙ sym (walked-single n)
 
-    pub walked-twice : (n : ℕ) → s .relayed .again ≡ true → refusedWith optionRepeated ≡ walked true n (options6 start (part m start end))
+    pub walked-twice : (n : ℕ) → s .relayed .again ≡ true → refusedRequest optionRepeated ≡ walked true n (options6 start (part m start end))
     walked-twice n f =
         single-twice (inside n) (having 9 (filling .list)) (sym (ap (λ (x : Seen). x .again) relayed-is) ∙ f) ∙ sym (walked-single n)
 

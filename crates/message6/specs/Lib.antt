@@ -1,3 +1,4 @@
 pub mod Options6
 pub mod Message6
 pub mod Reading6
+pub mod Walking6

@@ -8,7 +8,7 @@ use lib.Dec.{leb, eqb}
 use lib.ListN.{length, drop}
 use Rattle.base.specs.Refusal.{messageLength, optionsMalformed, optionRepeated, notARequest, tooManyRelays}
 use Rattle.message.specs.Options.{Located, having, isRepeated, optionOf}
-use Rattle.message.specs.Request.{refusedWith, noPart, Identifier, identified}
+use Rattle.message.specs.Request.{refusedRequest, noPart, Identifier, identified}
 use Rattle.message.specs.declared.Part.{Part}
 use Rattle.message.specs.declared.Request.{Request}
 use Rattle.message6.specs.Options6.{Option6, Options6, located6}
@@ -48,29 +48,29 @@ name6 (some l) = cond (leb 1 (length (l .bytes))) (some (record { start = l .sta
 -- 5, then 8; else the request
 unfoldable pub judge6 : List Located → Request
 judge6 ls =
-    cond (isRepeated 1 ls || isRepeated 39 ls) (refusedWith optionRepeated) (identified (identifier6 (optionOf 1 ls)) (name6 (optionOf 39 ls)))
+    cond (isRepeated 1 ls || isRepeated 39 ls) (refusedRequest optionRepeated) (identified (identifier6 (optionOf 1 ls)) (name6 (optionOf 39 ls)))
 
 -- ---- levels, working inwards
 
 -- a level with k relays around it, whose bytes b start at the offset at of the message, is answered with r: 4 for no bytes, 7, 11 for a ninth relay, 4 for its length
 -- and its options; of a relay 4 and 5 for its Relay Message option, 9; and only then what is inside that option, or what the client's options say
 pub data Level : ℕ → ℕ → List ℕ → Request → Type 0 where
-  no-bytes : {k at : ℕ} → Level k at [] (refusedWith optionsMalformed)
-  other-type : {k at : ℕ} {type : ℕ} {b : List ℕ} → isRequestType type ≡ false → eqb type relayForward ≡ false → Level k at (type ∷ b) (refusedWith notARequest)
-  ninth-relay : {k at : ℕ} {b : List ℕ} → 8 ≤ k → Level k at (relayForward ∷ b) (refusedWith tooManyRelays)
-  malformed-relay : {k at : ℕ} {b : List ℕ} → k < 8 → ((os : List Option6) → Filled relayForward (relayForward ∷ b) os → ⊥) → Level k at (relayForward ∷ b) (refusedWith optionsMalformed)
+  no-bytes : {k at : ℕ} → Level k at [] (refusedRequest optionsMalformed)
+  other-type : {k at : ℕ} {type : ℕ} {b : List ℕ} → isRequestType type ≡ false → eqb type relayForward ≡ false → Level k at (type ∷ b) (refusedRequest notARequest)
+  ninth-relay : {k at : ℕ} {b : List ℕ} → 8 ≤ k → Level k at (relayForward ∷ b) (refusedRequest tooManyRelays)
+  malformed-relay : {k at : ℕ} {b : List ℕ} → k < 8 → ((os : List Option6) → Filled relayForward (relayForward ∷ b) os → ⊥) → Level k at (relayForward ∷ b) (refusedRequest optionsMalformed)
   nothing-relayed : {k at : ℕ} {b : List ℕ} {os : List Option6} → k < 8 → Filled relayForward (relayForward ∷ b) os → having 9 (located6 (at + 34) os) ≡ []
-      → Level k at (relayForward ∷ b) (refusedWith optionsMalformed)
+      → Level k at (relayForward ∷ b) (refusedRequest optionsMalformed)
   relayed-twice : {k at : ℕ} {b : List ℕ} {os : List Option6} → k < 8 → Filled relayForward (relayForward ∷ b) os → isRepeated 9 (located6 (at + 34) os) ≡ true
-      → Level k at (relayForward ∷ b) (refusedWith optionRepeated)
+      → Level k at (relayForward ∷ b) (refusedRequest optionRepeated)
   relayed : {k at : ℕ} {b : List ℕ} {os : List Option6} {l : Located} {r : Request} → k < 8 → Filled relayForward (relayForward ∷ b) os → having 9 (located6 (at + 34) os) ≡ l ∷ []
       → Level (suc k) (l .start) (l .bytes) r → Level k at (relayForward ∷ b) r
-  malformed : {k at : ℕ} {type : ℕ} {b : List ℕ} → isRequestType type ≡ true → ((os : List Option6) → Filled type (type ∷ b) os → ⊥) → Level k at (type ∷ b) (refusedWith optionsMalformed)
+  malformed : {k at : ℕ} {type : ℕ} {b : List ℕ} → isRequestType type ≡ true → ((os : List Option6) → Filled type (type ∷ b) os → ⊥) → Level k at (type ∷ b) (refusedRequest optionsMalformed)
   client : {k at : ℕ} {type : ℕ} {b : List ℕ} {os : List Option6} → isRequestType type ≡ true → Filled type (type ∷ b) os → Level k at (type ∷ b) (judge6 (located6 (at + 4) os))
 
 -- ---- the whole message
 
 pub data Reads6 (m : List ℕ) : Request → Type 0 where
-  too-short : length m < 4 → Reads6 m (refusedWith messageLength)
-  too-long : 2048 < length m → Reads6 m (refusedWith messageLength)
+  too-short : length m < 4 → Reads6 m (refusedRequest messageLength)
+  too-long : 2048 < length m → Reads6 m (refusedRequest messageLength)
   levels : {r : Request} → 4 ≤ length m → length m ≤ 2048 → Level 0 0 m r → Reads6 m r

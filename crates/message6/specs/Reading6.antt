@@ -1,26 +1,18 @@
 -- A DHCPv6 request read from front to back, level by level: the function whose answers the contracts promise. That it answers just what specs/Message6.antt tells
--- is proofs/Theorems.antt.
-use Prim.Native.Nat.{ℕ, zero, suc, _+_, _-_, _*_}
-use mathlib.Core.Bool.{Bool, true, false, cond, _&&_, _||_}
+-- is proofs/Theorems.antt. What the code keeps on its way stands apart, in specs/Walking6.antt.
+use Prim.Native.Nat.{ℕ, zero, suc, _+_, _*_}
+use mathlib.Core.Bool.{Bool, cond, _&&_, _||_}
 use mathlib.Core.List.{List, [], _∷_, _++_}
 use mathlib.Core.Option.{Option, none, some}
 use lib.Dec.{leb, ltb, eqb}
 use lib.ListN.{length, take, drop}
-use Rattle.base.specs.Refusal.{messageLength, optionsMalformed, optionRepeated, notARequest, noIdentifier, tooManyRelays}
+use Rattle.base.specs.Refusal.{messageLength, optionsMalformed, optionRepeated, notARequest, tooManyRelays}
 use Rattle.message.specs.Options.{Located, having}
-use Rattle.message.specs.Request.{refusedWith, noPart}
-use Rattle.message.specs.Seen.{seenOf, met}
-use Rattle.message.specs.declared.Part.{Part}
+use Rattle.message.specs.Request.{refusedRequest}
 use Rattle.message.specs.declared.Request.{Request}
-use Rattle.message.specs.declared.seen.Seen.{Seen}
 use Rattle.message6.specs.Message6.{isRequestType, relayForward, header, judge6}
-use Rattle.message6.specs.declared.LevelSeen.{LevelSeen}
 
 -- ---- the options of one level
-
--- the bytes of a message from one offset up to another
-unfoldable pub part : List ℕ → ℕ → ℕ → List ℕ
-part m at end = take (end - at) (drop at m)
 
 -- the number of two bytes, the high byte first
 abbrev pub be16 : ℕ → ℕ → ℕ
@@ -58,68 +50,21 @@ options (suc n) at b = option (options n) at b
 unfoldable pub options6 : ℕ → List ℕ → Option (List Located)
 options6 at b = options (suc (length b)) at b
 
--- ---- what is kept of them
-
--- the options with the codes 9, 1 and 39
-unfoldable pub seenIn : List Located → LevelSeen
-seenIn ls = record { filled = true; relayed = seenOf (having 9 ls); duid = seenOf (having 1 ls); name = seenOf (having 39 ls) }
-
--- no option of these
-unfoldable pub nothingSeen : Bool → LevelSeen
-nothingSeen filled = record { filled = filled; relayed = seenOf []; duid = seenOf []; name = seenOf [] }
-
-unfoldable pub levelSeen : Option (List Located) → LevelSeen
-levelSeen none = nothingSeen false
-levelSeen (some ls) = seenIn ls
-
--- one option more
-unfoldable pub levelMet : LevelSeen → ℕ → Part → LevelSeen
-levelMet s code p =
-    record {
-      filled = s .filled;
-      relayed = cond (eqb code 9) (met (s .relayed) p) (s .relayed);
-      duid = cond (eqb code 1) (met (s .duid) p) (s .duid);
-      name = cond (eqb code 39) (met (s .name) p) (s .name);
-    }
-
--- ---- the client's message, by what was seen
-
-abbrev pub acceptedWith : Part → Bool → Part → Request
-acceptedWith id named name = record { refusal = 0; «id_type» = 2; «id_head» = noPart; id = id; «has_name» = named; name = name }
-
--- option 1 is there, and is a DUID of 3 to 130 bytes
-abbrev pub isDuid : Seen → Bool
-isDuid s = s .found && leb 3 (s .part .len) && leb (s .part .len) 130
-
--- option 39 is there, and is not empty
-abbrev pub isName : Seen → Bool
-isName s = s .found && leb 1 (s .part .len)
-
--- a byte of flags stands before the name
-abbrev pub nameIn : Part → Part
-nameIn p = record { start = p .start + 1; len = p .len - 1 }
-
-unfoldable pub judged : LevelSeen → Request
-judged s =
-    cond (s .duid .again || s .name .again) (refusedWith optionRepeated)
-    (cond (isDuid (s .duid)) (cond (isName (s .name)) (acceptedWith (s .duid .part) true (nameIn (s .name .part))) (acceptedWith (s .duid .part) false noPart))
-    (refusedWith noIdentifier))
-
 -- ---- one level
 
 -- the client's message: what its options say
 unfoldable pub client : Option (List Located) → Request
-client none = refusedWith optionsMalformed
+client none = refusedRequest optionsMalformed
 client (some ls) = judge6 ls
 
 -- the one Relay Message option of a relay, read by `inner`
 unfoldable pub single : (Located → Request) → List Located → Request
-single inner [] = refusedWith optionsMalformed
+single inner [] = refusedRequest optionsMalformed
 single inner (l ∷ []) = inner l
-single inner (l ∷ k ∷ ls) = refusedWith optionRepeated
+single inner (l ∷ k ∷ ls) = refusedRequest optionRepeated
 
 unfoldable pub relay : (Located → Request) → Option (List Located) → Request
-relay inner none = refusedWith optionsMalformed
+relay inner none = refusedRequest optionsMalformed
 relay inner (some ls) = single inner (having 9 ls)
 
 -- the options of a level of this type, if it has its header
@@ -128,21 +73,17 @@ optionsOf type at b = cond (leb (header type) (length b)) (options6 (at + header
 
 -- a level by its type; `relaying` is what a relay's options come to
 unfoldable pub typed : (Option (List Located) → Request) → ℕ → List ℕ → Request
-typed relaying at [] = refusedWith optionsMalformed
+typed relaying at [] = refusedRequest optionsMalformed
 typed relaying at (type ∷ b) =
     cond (isRequestType type) (client (optionsOf type at (type ∷ b)))
-    (cond (eqb type relayForward) (relaying (optionsOf relayForward at (type ∷ b))) (refusedWith notARequest))
+    (cond (eqb type relayForward) (relaying (optionsOf relayForward at (type ∷ b))) (refusedRequest notARequest))
 
 -- a level that starts at the offset at, where n relays are still allowed
 unfoldable pub level : ℕ → ℕ → List ℕ → Request
-level zero at b = typed (λ os. refusedWith tooManyRelays) at b
+level zero at b = typed (λ os. refusedRequest tooManyRelays) at b
 level (suc n) at b = typed (relay (λ l. level n (l .start) (l .bytes))) at b
-
--- a level's options, of a relay or of the client's message, where n relays are still allowed inside
-unfoldable pub walked : Bool → ℕ → Option (List Located) → Request
-walked relaying n os = cond relaying (relay (λ l. level n (l .start) (l .bytes)) os) (client os)
 
 -- ---- the whole message
 
 unfoldable pub request6 : List ℕ → Request
-request6 m = cond (ltb (length m) 4 || ltb 2048 (length m)) (refusedWith messageLength) (level 8 0 m)
+request6 m = cond (ltb (length m) 4 || ltb 2048 (length m)) (refusedRequest messageLength) (level 8 0 m)

@@ -14,6 +14,7 @@ ghost use mathlib.Core.Path.{_≡_};
 ghost use Prim.Native.Nat.{_+_, _≤_, _<_, _^_};
 ghost use Rattle.message6.specs.Message6 as told;
 ghost use Rattle.message6.specs.Reading6 as reading;
+ghost use Rattle.message6.specs.Walking6 as walking;
 
 // The fewest and the most bytes of a message (refusal 1), and the most relays outside the client's (refusal 11).
 const MESSAGE_LEAST: usize = 4;
@@ -46,21 +47,21 @@ const CLIENT_IDENTIFIER: u16 = 1;
 const CLIENT_NAME: u16 = 39;
 
 // What was seen of one level's options.
-pub struct LevelSeen {
+struct LevelSeen {
     // they fill the level; where they do not, nothing counts as seen
-    pub filled: bool,
+    filled: bool,
     // option 9, the message that a relay passes on
-    pub relayed: Seen,
+    relayed: Seen,
     // option 1, the client's identifier
-    pub duid: Seen,
+    duid: Seen,
     // option 39, the client's name
-    pub name: Seen,
+    name: Seen,
 }
 
 impl LevelSeen {
     // No option yet.
     fn none(filled: bool) -> LevelSeen
-        ensures { λ r. ⌜ r ≡ reading.nothingSeen filled ⌝ }
+        ensures { λ r. ⌜ r ≡ walking.nothingSeen filled ⌝ }
     {
         LevelSeen {
             filled: filled,
@@ -74,7 +75,7 @@ impl LevelSeen {
 // Passes the options of a level, which stand from `start` up to `end`.
 fn pass_options(message: &[u8], start: usize, end: usize) -> LevelSeen
     requires { do ⌜ (start ≤ end) × (end ≤ (← ⟦message.len()⟧)) ⌝ }
-    ensures { λ r. ⌜ r ≡ reading.levelSeen (reading.options6 start (reading.part (now (message .entry)) start end)) ⌝ }
+    ensures { λ r. ⌜ r ≡ walking.levelSeen (reading.options6 start (walking.part (now (message .entry)) start end)) ⌝ }
 {
     let mut at = start;
     let mut relayed = Seen::none();
@@ -112,7 +113,7 @@ fn pass_options(message: &[u8], start: usize, end: usize) -> LevelSeen
 }
 
 fn accepted(id: Part, named: bool, name: Part) -> Request
-    ensures { λ r. ⌜ r ≡ reading.acceptedWith id named name ⌝ }
+    ensures { λ r. ⌜ r ≡ walking.acceptedWith id named name ⌝ }
 {
     Request {
         refusal: 0,
@@ -126,7 +127,7 @@ fn accepted(id: Part, named: bool, name: Part) -> Request
 
 // Option 1 is there, and is a DUID of 3 to 130 bytes.
 fn is_duid(duid: Seen) -> bool
-    ensures { λ r. ⌜ r ≡ reading.isDuid duid ⌝ }
+    ensures { λ r. ⌜ r ≡ walking.isDuid duid ⌝ }
 {
     if !duid.found {
         return false;
@@ -137,7 +138,7 @@ fn is_duid(duid: Seen) -> bool
 
 // Option 39 is there, and is not empty.
 fn is_name(name: Seen) -> bool
-    ensures { λ r. ⌜ r ≡ reading.isName name ⌝ }
+    ensures { λ r. ⌜ r ≡ walking.isName name ⌝ }
 {
     let part = name.part;
     name.found && 1 <= part.len
@@ -146,7 +147,7 @@ fn is_name(name: Seen) -> bool
 // What the options of the client's message say.
 fn judge(level: LevelSeen) -> Request
     requires { ⌜ level .name .part .start + level .name .part .len < 2 ^ 64 ⌝ }
-    ensures { λ r. ⌜ r ≡ reading.judged level ⌝ }
+    ensures { λ r. ⌜ r ≡ walking.judged level ⌝ }
 {
     let duid = level.duid;
     let name = level.name;
@@ -184,7 +185,7 @@ fn is_request_type(kind: u8) -> bool
 // One level, which stands from `start` up to `end`; so many relays are still allowed, this one among them.
 fn read_level(message: &[u8], start: usize, end: usize, relays: u32) -> Request
     requires { do ⌜ (start ≤ end) × (end ≤ (← ⟦message.len()⟧)) ⌝ }
-    ensures { λ r. ⌜ r ≡ reading.level relays start (reading.part (now (message .entry)) start end) ⌝ }
+    ensures { λ r. ⌜ r ≡ reading.level relays start (walking.part (now (message .entry)) start end) ⌝ }
 {
     if start == end {
         return refused(OPTIONS_MALFORMED);
@@ -212,7 +213,7 @@ fn read_level(message: &[u8], start: usize, end: usize, relays: u32) -> Request
 // what a relay passes on is read, as a level of its own, where so many relays are still allowed.
 fn walk_options(message: &[u8], start: usize, end: usize, relay: bool, relays: u32) -> Request
     requires { do ⌜ (start ≤ end) × (end ≤ (← ⟦message.len()⟧)) ⌝ }
-    ensures { λ r. ⌜ r ≡ reading.walked relay relays (reading.options6 start (reading.part (now (message .entry)) start end)) ⌝ }
+    ensures { λ r. ⌜ r ≡ walking.walked relay relays (reading.options6 start (walking.part (now (message .entry)) start end)) ⌝ }
 {
     let level = pass_options(message, start, end);
     if !level.filled {

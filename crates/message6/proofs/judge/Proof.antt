@@ -6,7 +6,7 @@ use lib.Dec.{leb}
 use borrow.Author.Needs.{needs}
 use borrow.Author.Tests.{leb-true, not-true, not-false}
 use Rattle.base.proofs.Tests.{and-right}
-use Rattle.message6.specs.Reading6.{isName, judged}
+use Rattle.message6.specs.Walking6.{isName, judged}
 use Rattle.message6.proofs.judge.Statement.{statement}
 use Rattle.message6.proofs.judge.Tie as tie
 

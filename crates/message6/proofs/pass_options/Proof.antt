@@ -1,7 +1,9 @@
-use Prim.Native.Nat.{_+_, _-_, _≤_}
-use mathlib.Core.Path.{_∙_}
+use Prim.Native.Nat.{_+_, _-_, _≤_, _<_}
+use mathlib.Core.Path.{_≡_, _∙_}
 use native.Mathlib.Omega.{arith}
 use borrow.Author.Needs.{needs}
+use Rattle.message6.specs.Walking6.{levelMet}
+use Rattle.message6.specs.declared.LevelSeen.{LevelSeen}
 use Rattle.message6.proofs.PassLaws6.{Passing, level, level-relayed, level-duid, level-name, level-other, passing-none, passing-short, passing-past, passing-more, passing-end}
 use Rattle.message6.proofs.pass_options.Statement.{statement}
 use Rattle.message6.proofs.pass_options.Tie as tie
@@ -131,19 +133,16 @@ add-at c =
     let e = l .before .before .before .before .before in
     omega (arith, l .loop .inv .high, e .pre, e .good .0 .0)
 
-met-requires : tie.Need-met-requires Inv-loop μ-loop
-met-requires c κs = search needs
-
-loop-less : tie.Need-loop-less Inv-loop μ-loop
-loop-less c =
-    let g = c .before .before .before .before .before .before .before .before .before .before in
-    let l = g .before in
-    let e = l .before .before .before .before .before in
-    omega (arith, l .loop .inv .high, e .pre, e .good .0 .0, g .loop-test .taken)
-
-loop-again : tie.Need-loop-again Inv-loop μ-loop
-loop-again c =
-    let f = c .before .before in
+-- one option more, whatever it is
+turn : (f : tie.Else2 Inv-loop μ-loop)
+    → let d = f .before in
+    let b = d .before .before .before in
+    let l = b .before .before .before .before .before in
+    let a = l .before .before .before .before .before .args in
+    (s : LevelSeen)
+    → s ≡ levelMet (level (l .loop .relayed) (l .loop .duid) (l .loop .name)) (b .be16 .result) (record { start = l .loop .at + 4; len = d .be162 .result })
+    → Passing (a .message .now) (a .start) (a .end) (l .loop .at + 4 + d .be162 .result) s
+turn f =
     let d = f .before in
     let b = d .before .before .before in
     let l = b .before .before .before .before .before in
@@ -153,81 +152,71 @@ loop-again c =
     let more : l .loop .at + 4 ≤ a .end = omega (arith, l .loop .inv .high, e .pre, e .good .0 .0) in
     passing-more (a .message .now) (a .start) (a .end) (l .loop .at) (level (l .loop .relayed) (l .loop .duid) (l .loop .name)) (l .loop .inv) (e .pre .1) more
     (b .be16 .result) (d .be162 .result) (b .be16 .ensures) (d .be162 .ensures) (λ i. k .shared-slice-known .given i .fits) (f .if2 .left)
-    (level (c .met .result) (l .loop .duid) (l .loop .name))
-    (level-relayed (l .loop .relayed) (l .loop .duid) (l .loop .name) (c .met .result) (b .be16 .result) _ (c .before .match .keys1) (c .met .ensures))
+
+falls : (f : tie.Else2 Inv-loop μ-loop)
+    → let d = f .before in
+    let l = d .before .before .before .before .before .before .before .before in
+    let a = l .before .before .before .before .before .args in
+    a .end - (l .loop .at + 4 + d .be162 .result) < a .end - l .loop .at
+falls f =
+    let g = f .before .before .before .before .before .before .before .before in
+    let l = g .before in
+    let e = l .before .before .before .before .before in
+    omega (arith, l .loop .inv .high, e .pre, e .good .0 .0, g .loop-test .taken)
+
+met-requires : tie.Need-met-requires Inv-loop μ-loop
+met-requires c κs = search needs
+
+loop-less : tie.Need-loop-less Inv-loop μ-loop
+loop-less c = falls (c .before .before)
+
+loop-again : tie.Need-loop-again Inv-loop μ-loop
+loop-again c =
+    let b = c .before .before .before .before .before .before in
+    let l = b .before .before .before .before .before .loop in
+    turn (c .before .before)
+    (level (c .met .result) (l .duid) (l .name))
+    (level-relayed (l .relayed) (l .duid) (l .name) (c .met .result) (b .be16 .result) _ (c .before .match .keys1) (c .met .ensures))
 
 met-requires-2 : tie.Need-met-requires-2 Inv-loop μ-loop
 met-requires-2 c κs = search needs
 
 loop-less-2 : tie.Need-loop-less-2 Inv-loop μ-loop
-loop-less-2 c =
-    let g = c .before .before .before .before .before .before .before .before .before .before in
-    let l = g .before in
-    let e = l .before .before .before .before .before in
-    omega (arith, l .loop .inv .high, e .pre, e .good .0 .0, g .loop-test .taken)
+loop-less-2 c = falls (c .before .before)
 
 loop-again-2 : tie.Need-loop-again-2 Inv-loop μ-loop
 loop-again-2 c =
-    let f = c .before .before in
-    let d = f .before in
-    let b = d .before .before .before in
-    let l = b .before .before .before .before .before in
-    let k = l .before .before .before .before in
-    let e = k .before in
-    let a = e .args in
-    let more : l .loop .at + 4 ≤ a .end = omega (arith, l .loop .inv .high, e .pre, e .good .0 .0) in
-    passing-more (a .message .now) (a .start) (a .end) (l .loop .at) (level (l .loop .relayed) (l .loop .duid) (l .loop .name)) (l .loop .inv) (e .pre .1) more
-    (b .be16 .result) (d .be162 .result) (b .be16 .ensures) (d .be162 .ensures) (λ i. k .shared-slice-known .given i .fits) (f .if2 .left)
-    (level (l .loop .relayed) (c .met2 .result) (l .loop .name))
-    (level-duid (l .loop .relayed) (l .loop .duid) (l .loop .name) (c .met2 .result) (b .be16 .result) _ (c .before .match .keys2) (c .met2 .ensures))
+    let b = c .before .before .before .before .before .before in
+    let l = b .before .before .before .before .before .loop in
+    turn (c .before .before)
+    (level (l .relayed) (c .met2 .result) (l .name))
+    (level-duid (l .relayed) (l .duid) (l .name) (c .met2 .result) (b .be16 .result) _ (c .before .match .keys2) (c .met2 .ensures))
 
 met-requires-3 : tie.Need-met-requires-3 Inv-loop μ-loop
 met-requires-3 c κs = search needs
 
 loop-less-3 : tie.Need-loop-less-3 Inv-loop μ-loop
-loop-less-3 c =
-    let g = c .before .before .before .before .before .before .before .before .before .before in
-    let l = g .before in
-    let e = l .before .before .before .before .before in
-    omega (arith, l .loop .inv .high, e .pre, e .good .0 .0, g .loop-test .taken)
+loop-less-3 c = falls (c .before .before)
 
 loop-again-3 : tie.Need-loop-again-3 Inv-loop μ-loop
 loop-again-3 c =
-    let f = c .before .before in
-    let d = f .before in
-    let b = d .before .before .before in
-    let l = b .before .before .before .before .before in
-    let k = l .before .before .before .before in
-    let e = k .before in
-    let a = e .args in
-    let more : l .loop .at + 4 ≤ a .end = omega (arith, l .loop .inv .high, e .pre, e .good .0 .0) in
-    passing-more (a .message .now) (a .start) (a .end) (l .loop .at) (level (l .loop .relayed) (l .loop .duid) (l .loop .name)) (l .loop .inv) (e .pre .1) more
-    (b .be16 .result) (d .be162 .result) (b .be16 .ensures) (d .be162 .ensures) (λ i. k .shared-slice-known .given i .fits) (f .if2 .left)
-    (level (l .loop .relayed) (l .loop .duid) (c .met3 .result))
-    (level-name (l .loop .relayed) (l .loop .duid) (l .loop .name) (c .met3 .result) (b .be16 .result) _ (c .before .match .keys3) (c .met3 .ensures))
+    let b = c .before .before .before .before .before .before in
+    let l = b .before .before .before .before .before .loop in
+    turn (c .before .before)
+    (level (l .relayed) (l .duid) (c .met3 .result))
+    (level-name (l .relayed) (l .duid) (l .name) (c .met3 .result) (b .be16 .result) _ (c .before .match .keys3) (c .met3 .ensures))
 
 loop-less-4 : tie.Need-loop-less-4 Inv-loop μ-loop
-loop-less-4 c =
-    let g = c .before .before .before .before .before .before .before .before .before in
-    let l = g .before in
-    let e = l .before .before .before .before .before in
-    omega (arith, l .loop .inv .high, e .pre, e .good .0 .0, g .loop-test .taken)
+loop-less-4 c = falls (c .before)
 
 loop-again-4 : tie.Need-loop-again-4 Inv-loop μ-loop
 loop-again-4 c =
-    let f = c .before in
-    let d = f .before in
-    let b = d .before .before .before in
-    let l = b .before .before .before .before .before in
-    let k = l .before .before .before .before in
-    let e = k .before in
-    let a = e .args in
-    let more : l .loop .at + 4 ≤ a .end = omega (arith, l .loop .inv .high, e .pre, e .good .0 .0) in
+    let b = c .before .before .before .before .before in
+    let l = b .before .before .before .before .before .loop in
     let r = c .match .rest in
-    passing-more (a .message .now) (a .start) (a .end) (l .loop .at) (level (l .loop .relayed) (l .loop .duid) (l .loop .name)) (l .loop .inv) (e .pre .1) more
-    (b .be16 .result) (d .be162 .result) (b .be16 .ensures) (d .be162 .ensures) (λ i. k .shared-slice-known .given i .fits) (f .if2 .left)
-    (level (l .loop .relayed) (l .loop .duid) (l .loop .name))
-    (level-other (l .loop .relayed) (l .loop .duid) (l .loop .name) (b .be16 .result) _ (λ e. r .0 .0 .1 e) (λ e. r .0 .1 e) (λ e. r .1 e))
+    turn (c .before)
+    (level (l .relayed) (l .duid) (l .name))
+    (level-other (l .relayed) (l .duid) (l .name) (b .be16 .result) _ (λ e. r .0 .0 .1 e) (λ e. r .0 .1 e) (λ e. r .1 e))
 
 returns-3 : tie.Need-returns-3 Inv-loop μ-loop
 returns-3 c =

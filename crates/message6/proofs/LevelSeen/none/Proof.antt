@@ -1,5 +1,5 @@
 use borrow.Author.Needs.{needs}
-use Rattle.message6.specs.Reading6.{nothingSeen}
+use Rattle.message6.specs.Walking6.{nothingSeen}
 use Rattle.message6.proofs.LevelSeen.none.Statement.{statement}
 use Rattle.message6.proofs.LevelSeen.none.Tie as tie
 
