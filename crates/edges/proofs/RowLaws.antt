@@ -8,27 +8,30 @@ use Rattle.base.specs.Bytes.{ascii, bigEndian, inBytes, eqBytes}
 use Rattle.base.specs.Dhcid.{identifierType, digestType, wellFormed}
 use Rattle.base.specs.Logic.{Every}
 use Rattle.name.specs.Label.{isUpper, isLower, isDigit, isLabelByte, lower}
-use Rattle.name.specs.Name.{wire, text, canonical, Spells}
+use Rattle.name.specs.Name.{wire, text, canonical, SpellsName}
 use Rattle.name.specs.Promise.{dotted, textOf}
 use Rattle.name.specs.ProperTest.{accepts, isProper}
-use Rattle.name.proofs.TextLaws.{lead, shifted, valid}
+use Rattle.name.specs.Promise.{lead}
+use Rattle.name.specs.TextTest.{shifted, valid}
 use Rattle.name.proofs.Theorems.{canonical-form, spelled}
 use Rattle.name.proofs.WireLaws.{passes-proper, fails-proper}
 use Rattle.text.specs.Digits.{digitValue}
 use Rattle.dhcid_text.specs.Dhcid.{digit64, base64, joined}
-use Rattle.dhcid_text.specs.DhcidReading.{value64}
+use Rattle.dhcid_text.specs.Base64.{value64}
 use Rattle.grammar.specs.Listing.{isVisible, kindOf, mnemonic}
 use Rattle.grammar.specs.Outcome.{Outcome, Checked}
-use Rattle.grammar.proofs.AddressReader.{fieldsOf, numbersOf, aOf, aaaaOf}
-use Rattle.grammar.proofs.Content.{isWord, typeOf, headOf, rdataOf, contentOf}
-use Rattle.grammar.proofs.Deciding.{provided, all, not-found}
-use Rattle.grammar.proofs.DhcidReader.{tested, threes, unbase64, base64Of, unhex, genericOf, dhcidOf, dhcid-reads}
-use Rattle.grammar.proofs.OwnerReader.{ownerOf}
-use Rattle.grammar.proofs.Reader.{readUpTo, read, check}
+use Rattle.grammar.specs.AddressReader.{fieldsOf, numbersOf, aOf, aaaaOf}
+use Rattle.grammar.specs.Content.{isWord, typeOf, headOf, rdataOf, contentOf}
+use Rattle.grammar.specs.Deciding.{provided, all}
+use Rattle.grammar.proofs.Deciding.{not-found}
+use Rattle.grammar.specs.DhcidReader.{tested, threes, unbase64, base64Of, unhex, genericOf, dhcidOf}
+use Rattle.grammar.proofs.DhcidReaderLaws.{dhcid-reads}
+use Rattle.grammar.specs.OwnerReader.{ownerOf}
+use Rattle.grammar.specs.Reader.{readUpTo, read, check}
 use Rattle.grammar.proofs.ReaderLaws.{checks}
-use Rattle.grammar.proofs.Scan.{scan}
+use Rattle.grammar.specs.Scan.{scan}
 use Rattle.message.specs.Options.{having, isRepeated, optionOf}
-use Rattle.message.specs.Request.{bytesOf, refusedWith, accepted, identifierBytes}
+use Rattle.message.specs.Request.{bytesOf, refusedRequest, accepted, identifierBytes}
 use Rattle.message4.specs.Message4.{hlen, hasDuid, hasWireName, judge4}
 use Rattle.message4.specs.Options4.{located4}
 use Rattle.message4.specs.Reading4.{field, fieldsAfter, fields4, options4, isBootrequest, afterHeader4, request4}
@@ -80,7 +83,7 @@ name-holds n none true p e = absurd (Option·some-ne-none (textOf (canonical n))
 name-holds n none false p e = fails-proper n p
 name-holds n (some t) true p e =
     let proper = passes-proper n p in
-    (proper, subst (λ (w : List ℕ). Spells w (canonical n)) (ap orNone e) (spelled (canonical n) (canonical-form n proper .proper)))
+    (proper, subst (λ (w : List ℕ). SpellsName w (canonical n)) (ap orNone e) (spelled (canonical n) (canonical-form n proper .proper)))
 name-holds n (some t) false p e = absurd (Option·some-ne-none t (sym e))
 
 identifier-holds : (d i : List ℕ) (k : ℕ) → (request4 (requestWith d) .refusal ∷ request4 (requestWith d) .«id_type» ∷ identifierBytes (requestWith d) (request4 (requestWith d))) ≡ 0 ∷ k ∷ i
@@ -104,7 +107,7 @@ rows-hold (r ∷ rs) e = Every.more {a = r} (row-holds r (head-eq-of-cons-eq e))
 -- ---- all of them
 
 computed : map found rows ≡ map said rows
-unfolding found said rows labels requestWith digits bytes isProper textIf accepts wire text textOf dotted canonical lower isUpper isLower isDigit isLabelByte ascii request4 afterHeader4 isBootrequest options4 fields4 fieldsAfter field located4 having isRepeated optionOf hlen hasDuid hasWireName judge4 bytesOf refusedWith accepted identifierBytes bigEndian inBytes identifierType digestType wellFormed lead shifted valid digitValue digit64 base64 joined value64 isVisible kindOf mnemonic provided all eqBytes scan ownerOf fieldsOf numbersOf aOf aaaaOf bind orElse tested threes unbase64 base64Of unhex genericOf dhcidOf isWord typeOf headOf rdataOf contentOf readUpTo read check
+unfolding found said rows labels requestWith digits bytes isProper textIf accepts wire text textOf dotted canonical lower isUpper isLower isDigit isLabelByte ascii request4 afterHeader4 isBootrequest options4 fields4 fieldsAfter field located4 having isRepeated optionOf hlen hasDuid hasWireName judge4 bytesOf refusedRequest accepted identifierBytes bigEndian inBytes identifierType digestType wellFormed lead shifted valid digitValue digit64 base64 joined value64 isVisible kindOf mnemonic provided all eqBytes scan ownerOf fieldsOf numbersOf aOf aaaaOf bind orElse tested threes unbase64 base64Of unhex genericOf dhcidOf isWord typeOf headOf rdataOf contentOf readUpTo read check
 computed = refl
 
 pub all-hold : Hold

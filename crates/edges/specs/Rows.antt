@@ -8,7 +8,7 @@ use mathlib.Core.Option.{Option, none, some}
 use lib.ListN.{length, replicate}
 use Rattle.base.specs.Bytes.{ascii}
 use Rattle.base.specs.Logic.{Every}
-use Rattle.name.specs.Name.{wire, text, Proper, canonical, Spells}
+use Rattle.name.specs.Name.{wire, text, Proper, canonical, SpellsName}
 use Rattle.dhcid_text.specs.Dhcid.{SpellsDhcid}
 use Rattle.grammar.specs.Outcome.{Outcome, accepted, refused, Checked}
 use Rattle.message.specs.Request.{identifierBytes}
@@ -39,7 +39,7 @@ bytes =
     ∷ 0x53 ∷ 0x51 ∷ 0xaa ∷ 0x69 ∷ 0xb4 ∷ 0xfe ∷ 0xbd ∷ 0x94 ∷ 0xe8 ∷ 0xf1 ∷ 0x7c ∷ 0xdb ∷ 0x95 ∷ 0x00 ∷ 0x0d ∷ 0xa4 ∷ []
 
 abbrev pub Holds : Row → Type 0
-Holds (name n (some t)) = Proper n × Spells t (canonical n)
+Holds (name n (some t)) = Proper n × SpellsName t (canonical n)
 Holds (name n none) = Proper n → ⊥
 Holds (identifier d k i) = (r : Request) × Reads4 (requestWith d) r × (r .refusal ≡ 0) × (r .«id_type» ≡ k) × (identifierBytes (requestWith d) r ≡ i)
 Holds (last-group w (some bs)) = SpellsDhcid ((digits ++ ascii w) ∷ []) (bytes ++ bs)

@@ -1,1 +1,3 @@
 pub mod FindLaws
+pub mod LineLaws
+pub mod Theorems

@@ -6,8 +6,11 @@
 use base::Answer;
 use base::slice::put;
 use check::same;
+use harness::Line;
 use harness::find;
+use harness::first;
 use harness::is_all;
+use harness::rest;
 use libc::STDIN_FILENO;
 use libc::STDOUT_FILENO;
 use table_load::load;
@@ -19,16 +22,9 @@ fn print(bytes: &[u8]) {
     io::write_all(STDOUT_FILENO, bytes);
 }
 
-// In decimal.
-fn print_number(n: u64) {
-    io::print_decimal(STDOUT_FILENO, n);
-}
-
-fn print_refusal(number: u32, offset: u32) {
-    print(b"refused ");
-    print_number(number as u64);
-    print(b" at ");
-    print_number(offset as u64);
+fn print_line(line: Line) {
+    let bytes = line.bytes;
+    print(first(&bytes, line.len));
 }
 
 // No fewer bytes than the input has.
@@ -47,7 +43,7 @@ const LONG: usize = 4096;
 
 // A refusal, and whether the bytes that were lent are those from before.
 fn show_refusal(number: u32, offset: u32, lent: &[u8]) {
-    print_refusal(number, offset);
+    print_line(Line::begin().refusal(number, offset));
     if is_all(lent, OLD) {
         print(b", all bytes as they were\n");
     } else {
@@ -72,24 +68,20 @@ fn load_again(table: &[u8], text: &[u8]) {
 
 // What was written, and the bytes behind it.
 fn show_written(table: &[u8], given: &[u8], out: &[u8], len: usize) {
-    print_number(len as u64);
-    print(b" bytes written");
-    if out.len() < len {
-        print(b", more than there is room for\n");
-        return;
-    }
-    if !is_all(&out[len..], OLD) {
+    print_line(Line::begin().number(len as u64).text(b" bytes written"));
+    if !is_all(rest(out, len), OLD) {
         print(b", and more changed");
     }
-    if same(&out[..len], given) {
+    let written = first(out, len);
+    if same(written, given) {
         print(b", as given\n");
     } else if len < LONG {
         print(b":\n");
-        print(&out[..len]);
+        print(written);
     } else {
         print(b"\n");
     }
-    load_again(table, &out[..len]);
+    load_again(table, written);
 }
 
 fn write_again(table: &[u8], given: &[u8]) {
@@ -104,9 +96,12 @@ fn run_listing(text: &[u8]) {
     let mut table = [OLD; TABLE];
     match load(&mut table, text) {
         Answer::Accepted(value) => {
-            print(b"loaded, answer ");
-            print_number(value as u64);
-            print(b"; ");
+            print_line(
+                Line::begin()
+                    .text(b"loaded, answer ")
+                    .number(value as u64)
+                    .text(b"; "),
+            );
             write_again(&table, text);
         }
         Answer::Refused { number, offset } => show_refusal(number, offset, &table),
@@ -116,10 +111,10 @@ fn run_listing(text: &[u8]) {
 // A label, the line's end and a listing.
 fn run_case(case: &[u8]) {
     let end = find(case, 0, b'\n');
-    print(&case[..end]);
+    print(first(case, end));
     print(b": ");
     if end < case.len() {
-        run_listing(&case[end + 1..]);
+        run_listing(rest(case, end + 1));
     }
 }
 
@@ -173,31 +168,25 @@ fn show_answer(answer: Answer, out: &[u8]) {
     }
 }
 
-// A write that has so many bytes of room.
-fn write_into(table: &[u8], out: &mut [u8], room: usize) {
-    if out.len() < room {
-        return;
-    }
-    let answer = write(table, &mut out[..room]);
-    show_answer(answer, out);
-}
-
-// A write that has one byte too few, and one of bytes that are no table's.
+// A write that has one byte too few, and one of bytes that are no table's, which has next to none.
 fn refuse(table: &mut [u8])
     requires { ⌜ length (now table) ≡ 19968 ⌝ }
 {
-    let mut out = [OLD; WRITTEN];
     print(b"the same, with 56511 bytes of room: ");
-    write_into(table, &mut out, WRITTEN - 1);
+    let mut short = [OLD; WRITTEN - 1];
+    let answer = write(table, &mut short);
+    show_answer(answer, &short);
     table[0] = 0;
     print(b"the same with no name in its first slot, 40 before 13: ");
-    write_into(table, &mut out, 0);
+    let mut little = [OLD; 1];
+    let faulty = write(table, &mut little);
+    show_answer(faulty, &little);
 }
 
 fn main() {
     let mut text = [0u8; INPUT];
     let n = io::read_full(STDIN_FILENO, &mut text);
-    run_all(&text[..n]);
+    run_all(first(&text, n));
     let mut table = [0u8; TABLE];
     fill(&mut table);
     print(b"64 names of 255 bytes with three records each: ");

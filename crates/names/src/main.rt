@@ -1,65 +1,50 @@
 // Names that the papers print, read and written. What each line must be stands in the file `stdout`, written before this program first ran, from
 // RFC 1035 (2.3.1, 4.1.4), RFC 4034 (6.1), RFC 4343 (2, 2.2, 4.1) and document 01 ("Both sides of each edge"), with document 01's rules for what is
 // no name: an escape, a star, a missing dot, an empty label. A text is followed by its canonical wire form, wire bytes by their text.
+use harness::Line;
+use harness::find;
+use harness::first;
 use libc::STDOUT_FILENO;
-use name::wire::canonical;
 use name::wire::is_proper;
 use name::wire::matches;
+use name::wire::put_canonical;
 use name_text::from_text;
 use name_text::put_text;
 ghost use Prim.Native.Nat.{_≤_};
-ghost use lib.ListN.{length};
 
-fn print(bytes: &[u8]) {
-    io::write_all(STDOUT_FILENO, bytes);
-}
-
-fn wide(b: u8) -> u64 {
-    b as u64
-}
-
-// Two lower-case digits for each byte.
-fn print_hex(bytes: &[u8]) {
-    let mut i: usize = 0;
-    while i < bytes.len() {
-        io::print_hex(STDOUT_FILENO, wide(bytes[i]), 2);
-        i += 1;
-    }
+fn print(line: Line) {
+    let bytes = line.bytes;
+    io::write_all(STDOUT_FILENO, first(&bytes, line.len));
 }
 
 fn text(word: &[u8]) {
-    print(word);
-    print(b": ");
+    let line = Line::begin().text(word).text(b": ");
     let read = from_text(word);
     let bytes = read.bytes;
-    let n = read.len as usize;
-    if n == 0 {
-        print(b"no name");
+    if read.len == 0 {
+        print(line.text(b"no name\n"));
     } else {
-        print_hex(&bytes[..n]);
+        print(line.hex(first(&bytes, read.len as usize)).text(b"\n"));
     }
-    print(b"\n");
 }
 
-fn print_text(name: &[u8])
-    requires { ⌜ (1 ≤ length (now name)) × (length (now name) ≤ 255) ⌝ }
-{
-    let n = name.len();
-    let bytes = canonical(name);
+// The line, and a name's canonical form in text behind it.
+fn with_text(line: Line, name: &[u8]) -> Line {
+    let mut bytes = [0u8; 255];
+    put_canonical(&mut bytes, 0, first(name, 255));
     let mut word = [0u8; 255];
-    put_text(&mut word, 0, &bytes[..n]);
-    print(&word[..n - 1]);
+    put_text(&mut word, 0, first(&bytes, name.len()));
+    // behind the text there are zeros
+    line.text(first(&word, find(&word, 0, 0)))
 }
 
 fn wire(label: &[u8], bytes: &[u8]) {
-    print(label);
-    print(b": ");
+    let line = Line::begin().text(label).text(b": ");
     if is_proper(bytes) {
-        print_text(bytes);
+        print(with_text(line, bytes).text(b"\n"));
     } else {
-        print(b"not proper");
+        print(line.text(b"not proper\n"));
     }
-    print(b"\n");
 }
 
 // Four labels of the letter a, the first three of 63 bytes and the last of `last`.
@@ -73,24 +58,20 @@ fn four_labels(label: &[u8], last: u8)
     bytes[192] = last;
     let end = 193 + last as usize;
     bytes[end] = 0;
-    wire(label, &bytes[..end + 1]);
+    wire(label, first(&bytes, end + 1));
 }
 
 // Is the name in text `a` the same as the one in text `b`?
 fn compare(a: &[u8], b: &[u8]) {
-    print(a);
-    print(b" and ");
-    print(b);
+    let line = Line::begin().text(a).text(b" and ").text(b);
     let x = from_text(a);
     let y = from_text(b);
     let xs = x.bytes;
     let ys = y.bytes;
-    let m = x.len as usize;
-    let n = y.len as usize;
-    if matches(&xs[..m], &ys[..n]) {
-        print(b": the same\n");
+    if matches(first(&xs, x.len as usize), first(&ys, y.len as usize)) {
+        print(line.text(b": the same\n"));
     } else {
-        print(b": not the same\n");
+        print(line.text(b": not the same\n"));
     }
 }
 

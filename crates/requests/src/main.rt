@@ -8,7 +8,11 @@ use base::Answer;
 use dhcid::Chosen;
 use dhcid::choose;
 use dhcid::put_dhcid;
+use harness::Line;
 use harness::find;
+use harness::first;
+use harness::put_fitting;
+use harness::rest;
 use libc::STDIN_FILENO;
 use libc::STDOUT_FILENO;
 use message::Part;
@@ -16,62 +20,40 @@ use message::Request;
 use message4::read4;
 use message6::read6;
 use text::digit::digit_value;
-ghost use Prim.Native.Nat.{_+_, _≤_, _<_};
+ghost use Prim.Native.Nat.{_<_};
 ghost use lib.ListN.{length};
 
 fn print(bytes: &[u8]) {
     io::write_all(STDOUT_FILENO, bytes);
 }
 
-// In decimal.
-fn print_number(n: u64) {
-    io::print_decimal(STDOUT_FILENO, n);
-}
-
-fn wide(b: u8) -> u64 {
-    b as u64
-}
-
-// Two lower-case digits for each byte.
-fn print_hex(bytes: &[u8]) {
-    let mut i: usize = 0;
-    while i < bytes.len() {
-        io::print_hex(STDOUT_FILENO, wide(bytes[i]), 2);
-        i += 1;
-    }
+fn print_line(line: Line) {
+    let bytes = line.bytes;
+    print(first(&bytes, line.len));
 }
 
 const LINE_END: u8 = 10;
 
-fn print_part(part: Part) {
-    print(b" ");
-    print_number(part.start as u64);
-    print(b"+");
-    print_number(part.len as u64);
+fn with_part(line: Line, part: Part) -> Line {
+    line.text(b" ")
+        .number(part.start as u64)
+        .text(b"+")
+        .number(part.len as u64)
 }
 
-fn print_request(request: Request) {
+fn with_request(line: Line, request: Request) -> Line {
     if request.refusal != 0 {
-        print(b": refused ");
-        print_number(request.refusal as u64);
-        print(b"\n");
-        return;
+        return line.text(b": refused ").number(request.refusal as u64);
     }
-    print(b": type ");
-    print_number(request.id_type as u64);
-    print(b" id");
     let id_head = request.id_head;
-    print_part(id_head);
     let id = request.id;
-    print_part(id);
-    print(b" name");
+    let typed = line.text(b": type ").number(request.id_type as u64);
+    let identified = with_part(with_part(typed.text(b" id"), id_head), id).text(b" name");
     if request.has_name {
         let name = request.name;
-        print_part(name);
-    } else {
-        print(b" none");
+        return with_part(identified, name);
     }
-    print(b"\n");
+    identified.text(b" none")
 }
 
 // A message that is being made: how many bytes it has, and what the next character goes on.
@@ -85,29 +67,39 @@ struct Draft {
     count: usize,
 }
 
-// Puts the byte b from `len` on, once for each number from `from` up to `to`, as far as there is room. Answers where it ends.
-fn put_times(out: &mut [u8], len: usize, b: u8, from: usize, to: usize) -> usize
-    requires { ⌜ len ≤ length (now out) ⌝ }
-    ensures { λ r. ⌜ r ≤ length (now (out .exit)) ⌝ }
-{
+// Puts the byte b, which stands once already, from `len` on until there are so many of it, as far as there is room. Answers where it ends.
+fn put_times(out: &mut [u8], len: usize, b: u8, times: usize) -> usize {
     let mut end = len;
-    let mut n = from;
-    while n < to {
-        if end == out.len() {
-            return end;
-        }
-        out[end] = b;
-        end += 1;
+    let mut n: usize = 1;
+    while n < times {
+        end = put_fitting(out, end, &[b]);
         n += 1;
     }
     end
 }
 
-// The message with one character more.
-fn with_digit(out: &mut [u8], d: Draft, v: u8) -> Draft
-    requires { ⌜ d .len ≤ length (now out) ⌝ }
-    ensures { λ r. ⌜ r .len ≤ length (now (out .exit)) ⌝ }
-{
+// A message of so many bytes, and nothing that goes on.
+fn drafted(len: usize, last: u8) -> Draft {
+    Draft {
+        len: len,
+        last: last,
+        half: false,
+        counting: false,
+        count: 0,
+    }
+}
+
+fn counting(d: Draft, count: usize) -> Draft {
+    Draft {
+        len: d.len,
+        last: d.last,
+        half: false,
+        counting: true,
+        count: count,
+    }
+}
+
+fn with_digit(out: &mut [u8], d: Draft, v: u8) -> Draft {
     if !d.half {
         return Draft {
             len: d.len,
@@ -118,29 +110,14 @@ fn with_digit(out: &mut [u8], d: Draft, v: u8) -> Draft
         };
     }
     let b = (d.last % 16) * 16 + v % 16;
-    let end = put_times(out, d.len, b, 0, 1);
-    Draft {
-        len: end,
-        last: b,
-        half: false,
-        counting: false,
-        count: 0,
-    }
+    drafted(put_fitting(out, d.len, &[b]), b)
 }
 
-fn with_character(out: &mut [u8], d: Draft, c: u8) -> Draft
-    requires { ⌜ d .len ≤ length (now out) ⌝ }
-    ensures { λ r. ⌜ r .len ≤ length (now (out .exit)) ⌝ }
-{
+// The message with one character more.
+fn with_character(out: &mut [u8], d: Draft, c: u8) -> Draft {
     let v = digit_value(c);
     if c == b'*' {
-        return Draft {
-            len: d.len,
-            last: d.last,
-            half: false,
-            counting: true,
-            count: 0,
-        };
+        return counting(d, 0);
     }
     if !d.counting {
         if v < 16 {
@@ -149,36 +126,15 @@ fn with_character(out: &mut [u8], d: Draft, c: u8) -> Draft
         return d;
     }
     if v < 10 {
-        return Draft {
-            len: d.len,
-            last: d.last,
-            half: false,
-            counting: true,
-            count: d.count % 10000 * 10 + v as usize,
-        };
+        return counting(d, d.count % 10000 * 10 + v as usize);
     }
-    // the number is over; one of these bytes stands already
-    let end = put_times(out, d.len, d.last, 1, d.count);
-    Draft {
-        len: end,
-        last: d.last,
-        half: false,
-        counting: false,
-        count: 0,
-    }
+    // the number is over
+    drafted(put_times(out, d.len, d.last, d.count), d.last)
 }
 
 // Puts the message that a line tells into `out`: how many bytes it has.
-fn make(line: &[u8], out: &mut [u8]) -> usize
-    ensures { λ r. ⌜ r ≤ length (now (out .exit)) ⌝ }
-{
-    let mut d = Draft {
-        len: 0,
-        last: 0,
-        half: false,
-        counting: false,
-        count: 0,
-    };
+fn make(line: &[u8], out: &mut [u8]) -> usize {
+    let mut d = drafted(0, 0);
     let mut i: usize = 0;
     while i < line.len() {
         let next = with_character(out, d, line[i]);
@@ -189,40 +145,32 @@ fn make(line: &[u8], out: &mut [u8]) -> usize
     last.len
 }
 
-fn print_source(chosen: Chosen) {
+fn with_source(line: Line, chosen: Chosen) -> Line {
     if chosen.refusal != 0 {
-        return;
-    }
-    if chosen.from_site {
-        print(b" site");
-    } else {
-        print(b" message");
+        return line;
     }
     let part = chosen.part;
-    print_part(part);
+    if chosen.from_site {
+        return with_part(line.text(b" site"), part);
+    }
+    with_part(line.text(b" message"), part)
 }
 
-fn print_answer(answer: Answer) {
+fn with_answer(line: Line, answer: Answer) -> Line {
     match answer {
-        Answer::Accepted(n) => {
-            print(b" wrote ");
-            print_number(n as u64);
-        }
-        Answer::Refused { number, offset: _ } => {
-            print(b" refused ");
-            print_number(number as u64);
-        }
+        Answer::Accepted(n) => line.text(b" wrote ").number(n as u64),
+        Answer::Refused { number, offset: _ } => line.text(b" refused ").number(number as u64),
     }
 }
 
 // The chosen name, the DHCID's answer, and the output's bytes.
 fn print_dhcid<'a>(family: u32, setting: u32, message: &'a [u8], site: &'a [u8], out: &mut [u8]) {
-    print(b":");
-    print_source(choose(family, setting, message, site));
-    print_answer(put_dhcid(family, setting, message, site, out));
-    print(b" ");
-    print_hex(out);
-    print(b"\n");
+    let chosen = with_source(
+        Line::begin().text(b":"),
+        choose(family, setting, message, site),
+    );
+    let answered = with_answer(chosen, put_dhcid(family, setting, message, site, out));
+    print_line(answered.text(b" ").hex(out).text(b"\n"));
 }
 
 // With an output of 36 bytes, or of 34, that holds bytes 238.
@@ -236,12 +184,12 @@ fn show_dhcid<'a>(family: u32, setting: u32, is_short: bool, message: &'a [u8], 
     }
 }
 
-fn show_request(family: u8, message: &[u8]) {
+// The answer to a message of either family.
+fn read(family: u8, message: &[u8]) -> Request {
     if family == b'4' {
-        print_request(read4(message));
-    } else {
-        print_request(read6(message));
+        return read4(message);
     }
+    read6(message)
 }
 
 // A line behind its label: the family, a blank, and the message.
@@ -250,15 +198,8 @@ fn show_message(line: &[u8], room: &mut [u8]) {
         print(b": no message\n");
         return;
     }
-    let n = make(&line[2..], room);
-    show_request(line[0], &room[..n]);
-}
-
-// In `room` stand the k bytes of the site's name, and then the n bytes of the message.
-fn show_both(family: u32, setting: u32, is_short: bool, room: &[u8], k: usize, n: usize)
-    requires { ⌜ k + n ≤ length (now room) ⌝ }
-{
-    show_dhcid(family, setting, is_short, &room[k..k + n], &room[..k]);
+    let n = make(rest(line, 2), room);
+    print_line(with_request(Line::begin(), read(line[0], first(room, n))).text(b"\n"));
 }
 
 // The family, a blank, the setting, . or - for the output, a blank, and the site's name; behind `middle` the message.
@@ -272,9 +213,10 @@ fn show_named(line: &[u8], middle: usize, room: &mut [u8])
     let family = digit_value(line[0]) as u32;
     let setting = digit_value(line[2]) as u32;
     let is_short = line[3] == b'-';
-    let k = make(&line[5..middle], room);
-    let n = make(&line[middle + 1..], &mut room[k..]);
-    show_both(family, setting, is_short, room, k, n);
+    let mut site = io::buffer();
+    let k = make(rest(first(line, middle), 5), &mut site);
+    let n = make(rest(line, middle + 1), room);
+    show_dhcid(family, setting, is_short, first(room, n), first(&site, k));
 }
 
 fn show_rest(line: &[u8], room: &mut [u8]) {
@@ -288,12 +230,12 @@ fn show_rest(line: &[u8], room: &mut [u8]) {
 
 fn show(line: &[u8], room: &mut [u8]) {
     let label = find(line, 0, b';');
-    print(&line[..label]);
+    print(first(line, label));
     if label == line.len() {
         print(b": no message\n");
         return;
     }
-    show_rest(&line[label + 1..], room);
+    show_rest(rest(line, label + 1), room);
 }
 
 fn show_all(text: &[u8], room: &mut [u8]) {
@@ -301,10 +243,7 @@ fn show_all(text: &[u8], room: &mut [u8]) {
     while at < text.len() {
         let end = find(text, at, LINE_END);
         show(&text[at..end], room);
-        at = end;
-        if at < text.len() {
-            at += 1;
-        }
+        at = end + 1;
     }
 }
 
@@ -312,5 +251,5 @@ fn main() {
     let mut text = io::large_buffer();
     let n = io::read_full(STDIN_FILENO, &mut text);
     let mut room = io::buffer();
-    show_all(&text[..n], &mut room);
+    show_all(first(&text, n), &mut room);
 }

@@ -4,37 +4,16 @@
 use base::Answer;
 use check::same;
 use entry::Record;
+use harness::Line;
+use harness::first;
 use harness::is_all;
+use harness::rest;
 use libc::STDOUT_FILENO;
 use row::read_four;
 
-fn print(bytes: &[u8]) {
-    io::write_all(STDOUT_FILENO, bytes);
-}
-
-// In decimal.
-fn print_number(n: u64) {
-    io::print_decimal(STDOUT_FILENO, n);
-}
-
-fn wide(b: u8) -> u64 {
-    b as u64
-}
-
-// Two lower-case digits for each byte.
-fn print_hex(bytes: &[u8]) {
-    let mut i: usize = 0;
-    while i < bytes.len() {
-        io::print_hex(STDOUT_FILENO, wide(bytes[i]), 2);
-        i += 1;
-    }
-}
-
-fn print_refusal(number: u32, offset: u32) {
-    print(b"refused ");
-    print_number(number as u64);
-    print(b" at ");
-    print_number(offset as u64);
+fn print(line: Line) {
+    let bytes = line.bytes;
+    io::write_all(STDOUT_FILENO, first(&bytes, line.len));
 }
 
 // What a place holds before the call: no record has this type.
@@ -64,47 +43,43 @@ fn is_marked(place: Record) -> bool {
     same(&owner, &owner_mark) && same(&rdata, &rdata_mark)
 }
 
+fn with_record(line: Line, owner: &[u8], len: usize, rtype: u8, rdata: &[u8]) -> Line {
+    let record = line.hex(first(owner, len))
+        .text(b" ")
+        .number(rtype as u64)
+        .text(b" ")
+        .hex(rdata);
+    if is_all(rest(owner, len), 0) {
+        return record.text(b" and zeros\n");
+    }
+    record.text(b" and other bytes\n")
+}
+
 fn print_place(place: Record) {
-    print(b"  ");
+    let line = Line::begin().text(b"  ");
     if is_marked(place) {
-        print(b"as it was\n");
+        print(line.text(b"as it was\n"));
         return;
     }
     let owner = place.owner;
     let rdata = place.rdata;
-    let n = place.owner_len as usize;
-    print_hex(&owner[..n]);
-    print(b" ");
-    print_number(place.rtype as u64);
-    print(b" ");
-    print_hex(&rdata);
-    if is_all(&owner[n..], 0) {
-        print(b" and zeros\n");
-    } else {
-        print(b" and other bytes\n");
-    }
+    let len = place.owner_len as usize;
+    print(with_record(line, &owner, len, place.rtype, &rdata));
 }
 
-fn print_answer(answer: Answer) {
+fn with_answer(line: Line, answer: Answer) -> Line {
     match answer {
-        Answer::Accepted(count) => {
-            print(b": accepted ");
-            print_number(count as u64);
-        }
-        Answer::Refused { number, offset } => {
-            print(b": ");
-            print_refusal(number, offset);
-        }
+        Answer::Accepted(count) => line.text(b"accepted ").number(count as u64),
+        Answer::Refused { number, offset } => line.refusal(number, offset),
     }
-    print(b"\n");
 }
 
 fn show(label: &[u8], text: &[u8]) {
     let mark = marked();
     let read = read_four(text, [mark; 4]);
-    print(label);
+    let line = Line::begin().text(label).text(b": ");
     let answer = read.answer;
-    print_answer(answer);
+    print(with_answer(line, answer).text(b"\n"));
     let row = read.row;
     print_place(row[0]);
     print_place(row[1]);

@@ -20,7 +20,6 @@ vectors =
     ∷ record { bytes = 102 ∷ 111 ∷ 111 ∷ 98 ∷ 97 ∷ 114 ∷ []; text = 90 ∷ 109 ∷ 57 ∷ 118 ∷ 89 ∷ 109 ∷ 70 ∷ 121 ∷ [] }
     ∷ []
 
--- the bytes of each row have the text beside them, by the definition in `dhcid_text`
-unfoldable pub Hold : List Vector → Type 0
-Hold [] = Unit {0}
-Hold (v ∷ vs) = (base64 (v .bytes) ≡ v .text) × Hold vs
+-- the bytes have the text beside them, by the definition in `dhcid_text`
+unfoldable pub Holds : Vector → Type 0
+Holds v = base64 (v .bytes) ≡ v .text

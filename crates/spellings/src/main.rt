@@ -11,64 +11,57 @@ use address::read_aaaa;
 use dhcid_text::DhcidWords;
 use dhcid_text::ReadDhcid;
 use dhcid_text::put_base64;
+use harness::Line;
 use harness::find;
+use harness::first;
 use libc::STDOUT_FILENO;
 
-fn print(bytes: &[u8]) {
-    io::write_all(STDOUT_FILENO, bytes);
+fn print(line: Line) {
+    let bytes = line.bytes;
+    io::write_all(STDOUT_FILENO, first(&bytes, line.len));
 }
 
-fn wide(b: u8) -> u64 {
-    b as u64
+// What was read, and the text that is written for it.
+fn print_read(line: Line, bytes: &[u8], written: &[u8]) {
+    print(
+        line.text(b": ")
+            .hex(bytes)
+            .text(b" ")
+            .text(written)
+            .text(b"\n"),
+    );
 }
 
-// Two lower-case digits for each byte.
-fn print_hex(bytes: &[u8]) {
-    let mut i: usize = 0;
-    while i < bytes.len() {
-        io::print_hex(STDOUT_FILENO, wide(bytes[i]), 2);
-        i += 1;
+fn print_a(line: Line, bytes: &[u8; 4]) {
+    let mut written = [0u8; 15];
+    let n = a_length(bytes);
+    if n <= 15 {
+        put_a(&mut written, 0, bytes);
+        print_read(line, bytes, first(&written, n));
     }
 }
 
 fn a(word: &[u8]) {
-    print(b"A ");
-    print(word);
+    let line = Line::begin().text(b"A ").text(word);
     let read = read_a(word);
     let bytes = read.bytes;
     if read.found {
-        print(b": ");
-        print_hex(&bytes);
-        print(b" ");
-        print_a(&bytes);
+        print_a(line, &bytes);
     } else {
-        print(b": no address\n");
-    }
-}
-
-fn print_a(bytes: &[u8; 4]) {
-    let mut line = [10u8; 17];
-    let n = a_length(bytes);
-    if n <= 16 {
-        put_a(&mut line, 0, bytes);
-        print(&line[..n + 1]);
+        print(line.text(b": no address\n"));
     }
 }
 
 fn aaaa(word: &[u8]) {
-    print(b"AAAA ");
-    print(word);
+    let line = Line::begin().text(b"AAAA ").text(word);
     let read = read_aaaa(word);
     let bytes = read.bytes;
     if read.found {
-        print(b": ");
-        print_hex(&bytes);
-        print(b" ");
-        let mut line = [10u8; 40];
-        put_aaaa(&mut line, 0, &bytes);
-        print(&line);
+        let mut written = [0u8; 39];
+        put_aaaa(&mut written, 0, &bytes);
+        print_read(line, &bytes, &written);
     } else {
-        print(b": no address\n");
+        print(line.text(b": no address\n"));
     }
 }
 
@@ -85,19 +78,15 @@ fn read_words(words: &[u8]) -> ReadDhcid {
 }
 
 fn dhcid(words: &[u8]) {
-    print(b"DHCID ");
-    print(words);
+    let line = Line::begin().text(b"DHCID ").text(words);
     let read = read_words(words);
     let bytes = read.bytes;
     if read.found {
-        print(b": ");
-        print_hex(&bytes);
-        print(b" ");
-        let mut line = [10u8; 49];
-        put_base64(&mut line, 0, &bytes);
-        print(&line);
+        let mut written = [0u8; 48];
+        put_base64(&mut written, 0, &bytes);
+        print_read(line, &bytes, &written);
     } else {
-        print(b": no DHCID\n");
+        print(line.text(b": no DHCID\n"));
     }
 }
 

@@ -8,87 +8,68 @@
 use base::Answer;
 use base::slice::put;
 use check::same;
+use harness::Line;
 use harness::find;
+use harness::first;
 use harness::is_all;
+use harness::put_fitting;
+use harness::rest;
 use libc::STDIN_FILENO;
 use libc::STDOUT_FILENO;
 use slot_row::SIZE;
+use text::digit::digit_value;
 ghost use mathlib.Core.Path.{_≡_};
-ghost use Prim.Native.Nat.{_≤_, _<_};
 ghost use lib.ListN.{length};
 
 fn print(bytes: &[u8]) {
     io::write_all(STDOUT_FILENO, bytes);
 }
 
-// In decimal.
-fn print_number(n: u64) {
-    io::print_decimal(STDOUT_FILENO, n);
+fn print_line(line: Line) {
+    let bytes = line.bytes;
+    print(first(&bytes, line.len));
 }
 
-fn wide(b: u8) -> u64 {
-    b as u64
-}
-
-// Two lower-case digits for each byte.
-fn print_hex(bytes: &[u8]) {
-    let mut i: usize = 0;
-    while i < bytes.len() {
-        io::print_hex(STDOUT_FILENO, wide(bytes[i]), 2);
-        i += 1;
-    }
-}
-
-fn print_field(bytes: &[u8]) {
-    print(b" ");
+fn with_field(line: Line, bytes: &[u8]) -> Line {
     if is_all(bytes, 0) {
-        print(b"-");
-    } else {
-        print_hex(bytes);
+        return line.text(b" -");
     }
+    line.text(b" ").hex(bytes)
 }
 
-// Where a name of that length ends in its slot.
-fn name_end(len: u8) -> usize
-    ensures { λ r. ⌜ (1 ≤ r) × (r ≤ 256) ⌝ }
-{
-    1 + len as usize
+fn with_flags(line: Line, flags: u8) -> Line {
+    line.text(b" ").number(flags as u64)
 }
 
-fn print_flags(flags: u8) {
-    print_number(flags as u64);
+// The name that begins with its length.
+fn with_name(line: Line, slot: &[u8], len: u8) -> Line {
+    line.text(b" [").hex(rest(first(slot, 1 + len as usize), 1))
 }
 
 fn print_slot(slot: &[u8])
     requires { ⌜ length (now slot) ≡ 312 ⌝ }
 {
-    let end = name_end(slot[0]);
-    print(b" [");
-    print_hex(&slot[1..end]);
-    print(b" ");
-    print_flags(slot[256]);
-    print_field(&slot[257..261]);
-    print_field(&slot[261..277]);
-    print_field(&slot[277..281]);
-    print(b"]");
+    let named = with_flags(with_name(Line::begin(), slot, slot[0]), slot[256]);
+    let addressed = with_field(with_field(named, &slot[257..261]), &slot[261..277]);
+    print_line(with_field(addressed, &slot[277..281]).text(b"]"));
 }
 
 fn print_slots(table: &[u8]) {
-    let mut at: usize = 0;
-    while at < table.len() {
-        if table.len() - at < slot::SIZE {
+    let mut i: usize = 0;
+    while i < 64 {
+        let slot = first(rest(table, slot::SIZE * i), slot::SIZE);
+        if slot.len() < slot::SIZE {
             return;
         }
-        if table[at] == 0 {
+        if slot[0] == 0 {
             return;
         }
-        let end = at + slot::SIZE;
-        if (3 * slot::SIZE <= at) & (at < 62 * slot::SIZE) {
+        if (3 <= i) & (i < 62) {
             print(b".");
         } else {
-            print_slot(&table[at..end]);
+            print_slot(slot);
         }
-        at = end;
+        i += 1;
     }
 }
 
@@ -96,14 +77,12 @@ fn print_slots(table: &[u8]) {
 fn show(answer: Answer, before: &[u8], table: &[u8]) {
     match answer {
         Answer::Accepted(value) => {
-            print(b": ok ");
-            print_number(value as u64);
+            print_line(Line::begin().text(b": ok ").number(value as u64));
             print_slots(table);
         }
         Answer::Refused { number, offset: _ } => {
-            print(b": refused ");
-            print_number(number as u64);
-            if begins_with(before, table) {
+            print_line(Line::begin().text(b": refused ").number(number as u64));
+            if same(first(before, table.len()), table) {
                 print(b", all bytes as they were");
             } else {
                 print(b", bytes changed");
@@ -120,14 +99,6 @@ fn copy(table: &[u8]) -> [u8; 19968] {
         put(&mut bytes, 0, table);
     }
     bytes
-}
-
-fn begins_with(bytes: &[u8], table: &[u8]) -> bool {
-    let n = table.len();
-    if bytes.len() < n {
-        return false;
-    }
-    same(&bytes[..n], table)
 }
 
 fn dhcid_of(client: u8) -> [u8; 35] {
@@ -207,64 +178,35 @@ fn fill(table: &mut [u8]) -> u64 {
 
 fn fill_up(table: &mut [u8]) {
     let count = fill(table);
-    print(b": ");
-    print_number(count);
-    print(b" times ok 0");
+    print_line(Line::begin().text(b": ").number(count).text(b" times ok 0"));
     print_slots(table);
     print(b"\n");
 }
 
-// The value of a digit, 0 to 9 or a to f.
-fn digit(c: u8) -> u8
-    ensures { λ r. ⌜ r < 16 ⌝ }
-{
-    if c < b'a' {
-        return c % 16;
-    }
-    (c % 16 + 9) % 16
-}
-
+// The byte that has these two digits.
 fn byte(high: u8, low: u8) -> u8 {
-    digit(high) * 16 + digit(low)
+    digit_value(high) % 16 * 16 + digit_value(low) % 16
 }
 
 // Puts the bytes that the word has two digits each for into `out`, as far as there is room, and answers how many there are.
-fn make(word: &[u8], out: &mut [u8]) -> usize
-    ensures { λ r. ⌜ r ≤ length (now (out .exit)) ⌝ }
-{
+fn make(word: &[u8], out: &mut [u8]) -> usize {
     let mut n: usize = 0;
-    let mut i: usize = 0;
+    let mut i: usize = 1;
     while i < word.len() {
-        if word.len() - i < 2 {
-            return n;
-        }
-        if n == out.len() {
-            return n;
-        }
-        out[n] = byte(word[i], word[i + 1]);
-        n += 1;
+        n = put_fitting(out, n, &[byte(word[i - 1], word[i])]);
         i += 2;
     }
     n
-}
-
-// A blank and the address.
-fn run_named(state: u8, call: Call, table: &mut [u8], name: &[u8], rest: &[u8]) {
-    if rest.len() == 0 {
-        print(b": no address\n");
-        return;
-    }
-    let mut address = [0u8; 32];
-    let n = make(&rest[1..], &mut address);
-    run_at(state, call, table, name, &address[..n]);
 }
 
 // The name, a blank and the address.
 fn run_words(state: u8, call: Call, table: &mut [u8], words: &[u8]) {
     let blank = find(words, 0, b' ');
     let mut name = [0u8; 32];
-    let n = make(&words[..blank], &mut name);
-    run_named(state, call, table, &name[..n], &words[blank..]);
+    let mut address = [0u8; 32];
+    let n = make(first(words, blank), &mut name);
+    let m = make(rest(words, blank + 1), &mut address);
+    run_at(state, call, table, first(&name, n), first(&address, m));
 }
 
 // A line behind its label: where there is nothing, the names 00 to 62.
@@ -276,17 +218,17 @@ fn run_fields(fields: &[u8], table: &mut [u8]) {
     let call = Call {
         step: fields[0],
         client: byte(fields[2], fields[3]),
-        family: digit(fields[5]) as u32,
-        policy: digit(fields[7]) as u32,
+        family: digit_value(fields[5]) as u32,
+        policy: digit_value(fields[7]) as u32,
     };
-    run_words(fields[9], call, table, &fields[11..]);
+    run_words(fields[9], call, table, rest(fields, 11));
 }
 
 fn run_line(line: &[u8], table: &mut [u8]) {
     let label = find(line, 0, b';');
-    print(&line[..label]);
+    print(first(line, label));
     if label < line.len() {
-        run_fields(&line[label + 1..], table);
+        run_fields(rest(line, label + 1), table);
     }
 }
 
@@ -295,10 +237,7 @@ fn run_all(text: &[u8], table: &mut [u8]) {
     while at < text.len() {
         let end = find(text, at, b'\n');
         run_line(&text[at..end], table);
-        at = end;
-        if at < text.len() {
-            at += 1;
-        }
+        at = end + 1;
     }
 }
 
@@ -315,5 +254,5 @@ fn main() {
     let n = io::read_full(STDIN_FILENO, &mut text);
     let mut table = [0u8; 19968];
     keep_by_hand(&mut table);
-    run_all(&text[..n], &mut table);
+    run_all(first(&text, n), &mut table);
 }

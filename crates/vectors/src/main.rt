@@ -2,32 +2,20 @@
 // the first four from NIST's examples for FIPS 180-4 (the empty message from NIST's test vectors), the others by GNU coreutils 9.1's
 // sha256sum, with which Python 3.11's hashlib (OpenSSL 3.0) agrees. The others are the bytes 0, 1, 2 and so on, as many as the line says:
 // lengths on both sides of where the padding takes another block.
+use harness::Line;
+use harness::first;
 use hash::Sha256;
 use hash::digest_of;
 use libc::STDOUT_FILENO;
 ghost use Prim.Native.Nat.{_≤_};
 
-fn print(bytes: &[u8]) {
-    io::write_all(STDOUT_FILENO, bytes);
-}
-
-fn wide(b: u8) -> u64 {
-    b as u64
-}
-
-// Two lower-case digits for each byte.
-fn print_hex(bytes: &[u8]) {
-    let mut i: usize = 0;
-    while i < bytes.len() {
-        io::print_hex(STDOUT_FILENO, wide(bytes[i]), 2);
-        i += 1;
-    }
+fn print(line: Line) {
+    let bytes = line.bytes;
+    io::write_all(STDOUT_FILENO, first(&bytes, line.len));
 }
 
 fn show(label: &[u8], digest: [u8; 32]) {
-    print(label);
-    print_hex(&digest);
-    print(b"\n");
+    print(Line::begin().text(label).hex(&digest).text(b"\n"));
 }
 
 // A million times the letter a: pieces of 1, 2, 3 and so on up to 1,413 bytes, and the 1,009 that are left.

@@ -1,15 +1,18 @@
+use Prim.Native.Nat.{_-_}
 use mathlib.Core.Path.{_≡_}
-use borrow.Author.Needs.{needs}
-use Prim.Native.Nat.{_-_, _≤_}
 use lib.ListN.{length}
+use borrow.Author.Needs.{needs}
 use Rattle.requests.proofs.make.Statement.{statement}
 use Rattle.requests.proofs.make.Tie as tie
 
 abbrev Inv-loop : tie.InvT-loop
-Inv-loop line out₀ d₀ i₀ out d i = (length out ≡ length out₀) × (d .len ≤ length out)
+Inv-loop line out₀ d₀ i₀ out d i = length out ≡ length out₀
 
 abbrev μ-loop : tie.MeasureT-loop
 μ-loop line out₀ d₀ i₀ out d i = length line - i
+
+drafted-requires : tie.Need-drafted-requires Inv-loop μ-loop
+drafted-requires c κs = search needs
 
 loop-holds : tie.Need-loop-holds Inv-loop μ-loop
 loop-holds c = search needs
@@ -44,6 +47,7 @@ make-spec =
     (tie.spec
     Inv-loop
     μ-loop
+    drafted-requires
     loop-holds
     shared-slice-read-with-character
     with-character-requires

@@ -1,12 +1,12 @@
+use Prim.Native.Nat.{_-_}
 use mathlib.Core.Path.{_≡_}
-use borrow.Author.Needs.{needs}
-use Prim.Native.Nat.{_-_, _≤_}
 use lib.ListN.{length}
+use borrow.Author.Needs.{needs}
 use Rattle.requests.proofs.show_all.Statement.{statement}
 use Rattle.requests.proofs.show_all.Tie as tie
 
 abbrev Inv-loop : tie.InvT-loop
-Inv-loop text room₀ at₀ room at = (length room ≡ length room₀) × (at ≤ length text)
+Inv-loop text room₀ at₀ room at = length room ≡ length room₀
 
 abbrev μ-loop : tie.MeasureT-loop
 μ-loop text room₀ at₀ room at = length text - at
@@ -38,12 +38,6 @@ loop-less c = search needs
 loop-again : tie.Need-loop-again Inv-loop μ-loop
 loop-again c = search needs
 
-loop-less-2 : tie.Need-loop-less-2 Inv-loop μ-loop
-loop-less-2 c = search needs
-
-loop-again-2 : tie.Need-loop-again-2 Inv-loop μ-loop
-loop-again-2 c = search needs
-
 same-length : tie.Need-same-length Inv-loop μ-loop
 same-length c = search needs
 
@@ -65,7 +59,5 @@ show-all-spec =
     add-at
     loop-less
     loop-again
-    loop-less-2
-    loop-again-2
     same-length
     returns)
