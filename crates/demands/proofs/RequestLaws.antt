@@ -15,11 +15,11 @@ use Rattle.message.specs.Request.{identifierBytes}
 use Rattle.message.specs.declared.Request.{Request}
 use Rattle.message4.proofs.Theorems.{one-reading4}
 use Rattle.message6.proofs.Theorems.{one-reading6}
-use Rattle.dhcid.specs.Chosen.{Says, Chooses, nameBytes, Names}
-use Rattle.dhcid.specs.Dhcid.{Writes}
+use Rattle.dhcid.specs.Chosen.{Says, Chooses, nameBytes, nameAnswer, Names, NameApart}
+use Rattle.dhcid.specs.Dhcid.{WritesDhcid}
 use Rattle.dhcid.specs.declared.Chosen.{Chosen}
-use Rattle.dhcid.proofs.Theorems.{one-choice}
-use Rattle.dhcid.proofs.WritingLaws.{place-refused, place-chosen}
+use Rattle.dhcid.proofs.Theorems.{one-choice, name-apart}
+use Rattle.dhcid.proofs.WritingLaws.{name-refused, name-chosen}
 use Rattle.base.proofs.AnswerLaws.{accepted≢refused}
 use Rattle.demands.specs.Faults.{NameFault, dhcidTests, RoomFault, DhcidFault}
 use Rattle.demands.specs.Demand1.{Refuses, Unchanged}
@@ -42,11 +42,16 @@ module _ (family setting : ℕ) (m site : List ℕ) where
       go : (b : Bool) → eqb (c .refusal) 0 ≡ b → Judged (NameFault family setting m site) a
       go true q =
           let z = eqb-true (c .refusal) 0 q in
-          Judged.good _ (e ∙ sym (place-chosen c z)) (λ n at f. f .3 (sym (f .2) ∙ ap (λ (d : Chosen). d .refusal) (one-choice family setting m site (f .0) c (f .1) h) ∙ z))
+          Judged.good _ (e ∙ sym (name-chosen c z)) (λ n at f. f .3 (sym (f .2) ∙ ap (λ (d : Chosen). d .refusal) (one-choice family setting m site (f .0) c (f .1) h) ∙ z))
       go false q =
           let nz = eqb-false (c .refusal) 0 q in
           let f : NameFault family setting m site (c .refusal) 0 = (c, h, refl, nz, refl) in
-          Judged.bad (c .refusal) 0 (e ∙ sym (place-refused c nz)) f (λ n at g. one-name-fault f g)
+          Judged.bad (c .refusal) 0 (e ∙ sym (name-refused c nz)) f (λ n at g. one-name-fault f g)
+
+  -- and what C takes apart is the choice
+  pub name-taken-apart : (a : Answer) → Names family setting m site a → (c : Chosen) → Chooses family setting m site c → NameApart a c
+  unfolding Names
+  name-taken-apart a (d, k, e) c h = subst (λ (b : Answer). NameApart b c) (sym (e ∙ ap nameAnswer (one-choice family setting m site d c k h))) (name-apart family setting m site c h)
 
   module _ (out : List ℕ) where
     tests : Request → Chosen → List Test
@@ -66,29 +71,29 @@ module _ (family setting : ℕ) (m site : List ℕ) where
       f .1 ∙ sym (g .1),
     )
 
-    judged : {a : Answer} {left : List ℕ} → Writes family setting m site out a left → Judged (DhcidFault family setting m site out) a
+    judged : {a : Answer} {left : List ℕ} → WritesDhcid family setting m site out a left → Judged (DhcidFault family setting m site out) a
     unfolding DhcidFault NameFault RoomFault tests
-    judged (Writes.no-name {c} h nz) =
+    judged (WritesDhcid.no-name {c} h nz) =
         let f : DhcidFault family setting m site out (c .refusal) 0 = inl (c, h, refl, nz, refl) in
         Judged.bad (c .refusal) 0 refl f (λ n at g. one-dhcid-fault f g)
-    judged (Writes.too-much {r} {c} s h z long) =
+    judged (WritesDhcid.too-much {r} {c} s h z long) =
         let f : DhcidFault family setting m site out 14 0 = inr (r, c, s, h, z, (inl (λ few. omega arith, refl), refl)) in
         Judged.bad 14 0 refl f (λ n at g. one-dhcid-fault f g)
-    judged (Writes.no-room {r} {c} s h z few short) =
+    judged (WritesDhcid.no-room {r} {c} s h z few short) =
         let f : DhcidFault family setting m site out 13 0 = inr (r, c, s, h, z, (inr (few, inl (λ room. omega arith, refl)), refl)) in
         Judged.bad 13 0 refl f (λ n at g. one-dhcid-fault f g)
-    judged (Writes.written {r} {c} s h z few room) = Judged.good 35 refl none
+    judged (WritesDhcid.written {r} {c} s h z few room) = Judged.good 35 refl none
       where
         none : (n at : ℕ) → DhcidFault family setting m site out n at → ⊥
         none n at (inl (d, j, q, nz, p)) = nz (sym q ∙ ap (λ (e : Chosen). e .refusal) (one-choice family setting m site d c j h) ∙ z)
         none n at (inr (q, d, t, j, w, g)) = no-fault (tests q d) n (subst (λ (ts : List Test). AllHold ts) (same-tests s t h j) (few, (room, tt))) (g .0)
 
-    pub dhcid-refuses : (a : Answer) (left : List ℕ) → Writes family setting m site out a left → Refuses (DhcidFault family setting m site out) a
+    pub dhcid-refuses : (a : Answer) (left : List ℕ) → WritesDhcid family setting m site out a left → Refuses (DhcidFault family setting m site out) a
     dhcid-refuses a left w = refuses (judged w)
 
-    pub dhcid-unchanged : (a : Answer) (left : List ℕ) → Writes family setting m site out a left → Unchanged out left a
+    pub dhcid-unchanged : (a : Answer) (left : List ℕ) → WritesDhcid family setting m site out a left → Unchanged out left a
     unfolding Unchanged
-    dhcid-unchanged a left (Writes.no-name h nz) n at e = refl
-    dhcid-unchanged a left (Writes.too-much s h z long) n at e = refl
-    dhcid-unchanged a left (Writes.no-room s h z few short) n at e = refl
-    dhcid-unchanged a left (Writes.written s h z few room) n at e = absurd (accepted≢refused e)
+    dhcid-unchanged a left (WritesDhcid.no-name h nz) n at e = refl
+    dhcid-unchanged a left (WritesDhcid.too-much s h z long) n at e = refl
+    dhcid-unchanged a left (WritesDhcid.no-room s h z few short) n at e = refl
+    dhcid-unchanged a left (WritesDhcid.written s h z few room) n at e = absurd (accepted≢refused e)

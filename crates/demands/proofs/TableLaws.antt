@@ -1,5 +1,5 @@
 -- Demand 1, of the calls on the table. Assumes nothing.
-use Prim.Native.Nat.{ℕ, _^_, _≤_, _<_}
+use Prim.Native.Nat.{ℕ, _≤_, _<_}
 use mathlib.Core.Bool.{true, false, true≢false}
 use mathlib.Core.Path.{_≡_, refl, sym, ap, subst, _∙_}
 use mathlib.Core.Logic.{inl, inr}
@@ -18,13 +18,13 @@ use Rattle.slots.specs.Entry.{familyOf, addressOf}
 use Rattle.slots.specs.Form.{TableEntry, Sound}
 use Rattle.slots.specs.Promise.{isAddress}
 use Rattle.slots.proofs.Theorems.{one-sound-table}
-use Rattle.table.specs.Steps.{Outcome, find}
+use Rattle.table.specs.Steps.{StepOutcome, find}
 use Rattle.table.specs.Calls.{KnownPolicy, nameTests, argumentTests, Adds, Removes, Clears}
 use Rattle.table.proofs.CaseLaws.{Adding, add-case, Removing, remove-case, Clearing, clear-case}
 use Rattle.table.proofs.DemandLaws.{is-address}
 use Rattle.records.specs.Written.{listingOf}
 use Rattle.records.specs.Calls.{Writes}
-use Rattle.records.proofs.Theorems.{written-short}
+use Rattle.slots.specs.Sizes.{mostNames}
 use Rattle.demands.specs.Faults.{Of, Stands, ByHand, HeldBy, addTests, removeTests, clearTests, writeTests}
 use Rattle.demands.proofs.AnswerLaws.{InRow, after}
 
@@ -49,8 +49,8 @@ differs : {k d : List ℕ} → eqBytes k d ≡ false → k ≡ d → ⊥
 differs {k} {d} other e = true≢false (sym (eq-eqBytes k d e) ∙ other)
 
 -- the answer of an outcome
-answered : {a : Answer} {o p : Outcome (List ℕ)} → a ≡ o .answer → o ≡ p → a ≡ p .answer
-answered e q = e ∙ ap (λ (r : Outcome (List ℕ)). r .answer) q
+answered : {a : Answer} {o p : StepOutcome (List ℕ)} → a ≡ o .answer → o ≡ p → a ≡ p .answer
+answered e q = e ∙ ap (λ (r : StepOutcome (List ℕ)). r .answer) q
 
 -- it is not that address
 no-address : (o : Option (List ℕ)) (x : List ℕ) → isAddress o x ≡ false → o ≡ some x → ⊥
@@ -58,9 +58,9 @@ no-address none x e q = Option·none-ne-some x q
 no-address (some y) x e q = differs e (Option·some-injective y x q)
 
 -- of the table that b is
-module _ (b : List ℕ) (s : Sound 64 b) where
+module _ (b : List ℕ) (s : Sound mostNames b) where
   holds : (P : List TableEntry → Type 0) → P (s .table) → Of b P
-  holds P p k = subst P (one-sound-table 64 b s k) p
+  holds P p k = subst P (one-sound-table mostNames b s k) p
 
   fails : (P : List TableEntry → Type 0) → (P (s .table) → ⊥) → Of b P → ⊥
   fails P np f = np (f s)
@@ -77,7 +77,7 @@ module _ (b name dhcid : List ℕ) (family : ℕ) (address : List ℕ) where
   module _ (policy : ℕ) (a : Answer) (left : List ℕ) where
     -- 32, 31 and 30 of an add
     abbrev Room : List TableEntry → Type 0
-    Room t = find n t ≡ none → length t < 64
+    Room t = find n t ≡ none → length t < mostNames
 
     abbrev Other : List TableEntry → Type 0
     Other t = (d : List ℕ) → HeldBy d n t → policy ≡ 0 → d ≡ dhcid
@@ -85,10 +85,10 @@ module _ (b name dhcid : List ℕ) (family : ℕ) (address : List ℕ) where
     abbrev steps : List Test
     steps = record { number = 32; holds = Of b Room } ∷ record { number = 31; holds = Of b Hand } ∷ record { number = 30; holds = Of b Other } ∷ []
 
-    stepped : (s : Sound 64 b) {o : Outcome (List ℕ)} → a ≡ o .answer → Adding eqBytes (s .table) n dhcid (familyOf family) address 64 policy o → InRow a steps
+    stepped : (s : Sound mostNames b) {o : StepOutcome (List ℕ)} → a ≡ o .answer → Adding eqBytes (s .table) n dhcid (familyOf family) address mostNames policy o → InRow a steps
     unfolding ByHand HeldBy
     stepped s e (Adding.put-last found room o) =
-        InRow.passed 0 (answered e o) (omega arith) (
+        InRow.passed 0 (answered e o) (
           holds b s Room (λ q. room),
           (holds b s Hand (λ h. none-stands n (s .table) found (h .1)), (holds b s Other (λ d h z. absurd (none-stands n (s .table) found (h .1))), tt)),
         )
@@ -99,7 +99,7 @@ module _ (b name dhcid : List ℕ) (family : ℕ) (address : List ℕ) where
           inl (fails b s Hand (λ f. f (c, found, holder)), refl),
         ))
     stepped s e (Adding.same-client c k found holder same o) =
-        InRow.passed 1 (answered e o) (omega arith) (
+        InRow.passed 1 (answered e o) (
           holds b s Room (λ q. absurd (none-stands n (s .table) q found)),
           (
             holds b s Hand (λ h. not-by-hand n (s .table) found holder h),
@@ -112,17 +112,17 @@ module _ (b name dhcid : List ℕ) (family : ℕ) (address : List ℕ) where
           inr (holds b s Hand (λ h. not-by-hand n (s .table) found holder h), inl (fails b s Other (λ f. differs other (f k (c, found, holder) first)), refl)),
         ))
     stepped s e (Adding.latest-wins c k found holder other latest o) =
-        InRow.passed 2 (answered e o) (omega arith) (
+        InRow.passed 2 (answered e o) (
           holds b s Room (λ q. absurd (none-stands n (s .table) q found)),
           (holds b s Hand (λ h. not-by-hand n (s .table) found holder h), (holds b s Other (λ d h z. absurd (latest z)), tt)),
         )
 
-    pub add-in-row : Adds 64 b name dhcid family address policy a left → InRow a (addTests b name dhcid family address policy)
+    pub add-in-row : Adds mostNames b name dhcid family address policy a left → InRow a (addTests b name dhcid family address policy)
     unfolding Adds
-    add-in-row (inl f) = InRow.failed (f .number) (f .answer) (fault-before (argumentTests 64 (KnownFamily family × KnownPolicy policy) b name dhcid family address) steps (f .number) (f .fault))
+    add-in-row (inl f) = InRow.failed (f .number) (f .answer) (fault-before (argumentTests mostNames (KnownFamily family × KnownPolicy policy) b name dhcid family address) steps (f .number) (f .fault))
     add-in-row (inr s) =
-        after (argumentTests 64 (KnownFamily family × KnownPolicy policy) b name dhcid family address) steps (s .all-hold)
-        (stepped (s .sound) (s .answer) (add-case eqBytes (s .sound .table) n dhcid (familyOf family) address 64 policy))
+        after (argumentTests mostNames (KnownFamily family × KnownPolicy policy) b name dhcid family address) steps (s .all-hold)
+        (stepped (s .sound) (s .answer) (add-case eqBytes (s .sound .table) n dhcid (familyOf family) address mostNames policy))
 
   module _ (a : Answer) (left : List ℕ) where
     -- 33, 31, 30 and 34 of a remove
@@ -134,7 +134,7 @@ module _ (b name dhcid : List ℕ) (family : ℕ) (address : List ℕ) where
         record { number = 33; holds = Of b (Stands n) } ∷ record { number = 31; holds = Of b Hand } ∷ record { number = 30; holds = Of b (HeldBy dhcid n) }
         ∷ record { number = 34; holds = Of b Same } ∷ []
 
-    removed : (s : Sound 64 b) {o : Outcome (List ℕ)} → a ≡ o .answer → Removing eqBytes (s .table) n dhcid (familyOf family) address o → InRow a removals
+    removed : (s : Sound mostNames b) {o : StepOutcome (List ℕ)} → a ≡ o .answer → Removing eqBytes (s .table) n dhcid (familyOf family) address o → InRow a removals
     unfolding Stands ByHand HeldBy
     removed s e (Removing.not-held found o) = InRow.failed 33 (answered e o) (inl (fails b s (Stands n) (λ h. none-stands n (s .table) found (h .1)), refl))
     removed s e (Removing.by-hand c found holder o) =
@@ -153,7 +153,7 @@ module _ (b name dhcid : List ℕ) (family : ℕ) (address : List ℕ) where
           ),
         ))
     removed s e (Removing.removed c k found holder same there o) =
-        InRow.passed 0 (answered e o) (omega arith) (
+        InRow.passed 0 (answered e o) (
           holds b s (Stands n) (c, found),
           (
             holds b s Hand (λ h. not-by-hand n (s .table) found holder h),
@@ -164,36 +164,32 @@ module _ (b name dhcid : List ℕ) (family : ℕ) (address : List ℕ) where
           ),
         )
 
-    pub remove-in-row : Removes 64 b name dhcid family address a left → InRow a (removeTests b name dhcid family address)
+    pub remove-in-row : Removes mostNames b name dhcid family address a left → InRow a (removeTests b name dhcid family address)
     unfolding Removes
-    remove-in-row (inl f) = InRow.failed (f .number) (f .answer) (fault-before (argumentTests 64 (KnownFamily family) b name dhcid family address) removals (f .number) (f .fault))
+    remove-in-row (inl f) = InRow.failed (f .number) (f .answer) (fault-before (argumentTests mostNames (KnownFamily family) b name dhcid family address) removals (f .number) (f .fault))
     remove-in-row (inr s) =
-        after (argumentTests 64 (KnownFamily family) b name dhcid family address) removals (s .all-hold)
+        after (argumentTests mostNames (KnownFamily family) b name dhcid family address) removals (s .all-hold)
         (removed (s .sound) (s .answer) (remove-case eqBytes (s .sound .table) n dhcid (familyOf family) address))
 
 module _ (b name : List ℕ) (a : Answer) (left : List ℕ) where
   abbrev clearance : List Test
   clearance = record { number = 33; holds = Of b (Stands (canonical name)) } ∷ []
 
-  cleared : (s : Sound 64 b) {o : Outcome (List ℕ)} → a ≡ o .answer → Clearing (s .table) (canonical name) o → InRow a clearance
+  cleared : (s : Sound mostNames b) {o : StepOutcome (List ℕ)} → a ≡ o .answer → Clearing (s .table) (canonical name) o → InRow a clearance
   unfolding Stands
   cleared s e (Clearing.not-held found o) = InRow.failed 33 (answered e o) (inl (fails b s (Stands (canonical name)) (λ h. none-stands (canonical name) (s .table) found (h .1)), refl))
-  cleared s e (Clearing.cleared c found o) = InRow.passed 0 (answered e o) (omega arith) (holds b s (Stands (canonical name)) (c, found), tt)
+  cleared s e (Clearing.cleared c found o) = InRow.passed 0 (answered e o) (holds b s (Stands (canonical name)) (c, found), tt)
 
-  pub clear-in-row : Clears 64 b name a left → InRow a (clearTests b name)
+  pub clear-in-row : Clears mostNames b name a left → InRow a (clearTests b name)
   unfolding Clears
-  clear-in-row (inl f) = InRow.failed (f .number) (f .answer) (fault-before (nameTests 64 b name) clearance (f .number) (f .fault))
-  clear-in-row (inr s) = after (nameTests 64 b name) clearance (s .all-hold) (cleared (s .sound) (s .answer) (clear-case (s .sound .table) (canonical name)))
+  clear-in-row (inl f) = InRow.failed (f .number) (f .answer) (fault-before (nameTests mostNames b name) clearance (f .number) (f .fault))
+  clear-in-row (inr s) = after (nameTests mostNames b name) clearance (s .all-hold) (cleared (s .sound) (s .answer) (clear-case (s .sound .table) (canonical name)))
 
 module _ (b out : List ℕ) (a : Answer) (left : List ℕ) where
   abbrev Short : List TableEntry → Type 0
   Short t = length (listingOf t) ≤ length out
 
-  -- 56,512 bytes at most
-  short-listing : (s : Sound 64 b) → length (listingOf (s .table)) < 2 ^ 32
-  short-listing s = omega (arith, written-short 64 b s, s .slots .room)
-
-  pub write-in-row : Writes 64 b out a left → InRow a (writeTests b out)
+  pub write-in-row : Writes mostNames b out a left → InRow a (writeTests b out)
   write-in-row (Writes.not-sound f e l) = InRow.failed 40 e (inl (f, refl))
   write-in-row (Writes.short s room e l) = InRow.failed 13 e (inr (s, inl (fails b s Short (λ f. omega (arith, f)), refl)))
-  write-in-row (Writes.written s room e l) = InRow.passed (length (listingOf (s .table))) e (short-listing s) (s, (holds b s Short room, tt))
+  write-in-row (Writes.written s room e l) = InRow.passed (length (listingOf (s .table))) e (s, (holds b s Short room, tt))

@@ -1,15 +1,19 @@
--- The customer's three demands (specs/) hold of what the calls promise; each by citation. Assumes nothing.
+-- The customer's three demands (specs/) hold of what the calls promise; each by citation. The customer's numbers are compared with the code's, not copied: one that asks for less passes here, one that asks
+-- for more is refused. Assumes nothing.
+use native.Mathlib.Omega.{arith}
+use Rattle.listing.specs.Reading.{limit}
 use Rattle.row.proofs.Theorems as row
 use Rattle.row.proofs.Theorems.{refused-unchanged}
 use Rattle.table.proofs.Theorems.{refused-add, refused-remove, refused-clear}
 use Rattle.records.proofs.Theorems.{refused-write, refused-load}
+use Rattle.slots.specs.Sizes.{mostNames}
 use Rattle.demands.specs.Demand1.{Demand1, Unchanged}
 use Rattle.demands.specs.Demand2.{Demand2}
 use Rattle.demands.specs.Demand3.{Demand3}
 use Rattle.demands.proofs.AnswerLaws.{by-order}
 use Rattle.demands.proofs.RequestLaws.{name-refuses, dhcid-refuses, dhcid-unchanged}
 use Rattle.demands.proofs.DhcidLaws.{dhcid-is}
-use Rattle.demands.proofs.ChangeLaws.{same-table, add-is, remove-is, clear-is}
+use Rattle.demands.proofs.ChangeLaws.{same-table, enough-always, add-is, remove-is, clear-is}
 use Rattle.demands.proofs.ListingLaws.{listing-refuses, row-refuses, step-refuses, load-refuses}
 use Rattle.demands.proofs.TableLaws.{add-in-row, remove-in-row, clear-in-row, write-in-row}
 
@@ -24,23 +28,29 @@ demand-1 =
       reader = step-refuses;
       add = λ b name dhcid family address policy a left h. (
         by-order _ (add-in-row b name dhcid family address policy a left h),
-        refused-add 64 b name dhcid family address policy a left h,
+        refused-add mostNames b name dhcid family address policy a left h,
       );
-      remove = λ b name dhcid family address a left h. (by-order _ (remove-in-row b name dhcid family address a left h), refused-remove 64 b name dhcid family address a left h);
-      clear = λ b name a left h. (by-order _ (clear-in-row b name a left h), refused-clear 64 b name a left h);
-      write = λ b out a left h. (by-order _ (write-in-row b out a left h), refused-write 64 b out a left h);
-      load = λ t area a left h. (load-refuses t area a left h, refused-load 65536 64 t area a left h);
+      remove = λ b name dhcid family address a left h. (by-order _ (remove-in-row b name dhcid family address a left h), refused-remove mostNames b name dhcid family address a left h);
+      clear = λ b name a left h. (by-order _ (clear-in-row b name a left h), refused-clear mostNames b name a left h);
+      write = λ b out a left h. (by-order _ (write-in-row b out a left h), refused-write mostNames b out a left h);
+      load = λ t area a left h. (load-refuses t area a left h, refused-load limit mostNames t area a left h);
     }
 
 pub demand-2 : Demand2
 demand-2 =
     record {
       dhcid = dhcid-is;
-      same-table = same-table;
+      same-table = λ b out r left area a after bytes w accepted fits l. same-table b out r left area a after bytes w accepted (omega (arith, fits)) l;
+      enough = λ b out r left s fits w. enough-always b out r left s (omega (arith, fits)) w;
       add = add-is;
       remove = remove-is;
       clear = clear-is;
     }
 
 pub demand-3 : Demand3
-demand-3 = record { row = λ t lent handed a h short. row.demand-3 t lent handed a h short }
+demand-3 =
+    record {
+      row = λ t lent handed a h.
+          let d = row.demand-3 t lent handed a h in
+          record { accepted-exactly = λ short. d .accepted-exactly (omega (arith, short)); one-list = d .one-list; count = d .count; places = d .places };
+    }

@@ -6,6 +6,7 @@
 -- The first sentence is what it means that a crate is proved: every function ends, and none reads or writes past an end, whatever it is given that its `requires` allows; and no public call has a `requires`.
 -- The second sentence is stated here, call by call.
 use Prim.Native.Nat.{ℕ}
+use mathlib.Core.Bool.{true}
 use mathlib.Core.Path.{_≡_}
 use mathlib.Core.Logic.{_↔_}
 use mathlib.Core.List.{List}
@@ -16,8 +17,10 @@ use Rattle.dhcid.specs.Chosen.{Names}
 use Rattle.dhcid.specs.Dhcid as request
 use Rattle.entry.specs.declared.Record.{Record}
 use Rattle.listing.specs.Reading.{Checks}
-use Rattle.listing.specs.Giving.{Answers}
-use Rattle.listing.specs.declared.Found.the-variants as found
+use Rattle.listing.specs.Found as found
+use Rattle.listing.specs.Found.{isRefused}
+use Rattle.listing.specs.Giving.{StepIs}
+use Rattle.listing.specs.declared.Found.{Found}
 use Rattle.listing.specs.declared.Step.{Step}
 use Rattle.row.specs.Row.{RowRead}
 use Rattle.table.specs.Calls.{Adds, Removes, Clears}
@@ -28,19 +31,23 @@ use Rattle.demands.specs.Faults.{InOrder, NameFault, DhcidFault, Listing
 unfoldable pub Refuses : (ℕ → ℕ → Type 0) → Answer → Type 0
 Refuses Fault a = (n offset : ℕ) → (a ≡ Refused n offset) ↔ Fault n offset
 
+-- the same of a step of the held reader, which found f: whether that is a refusal, its number and its offset, case by case, are listing's specs/Found.antt
+unfoldable pub RefusesStep : (ℕ → ℕ → Type 0) → Found → Type 0
+RefusesStep Fault f = (n offset : ℕ) → ((isRefused f ≡ true) × (found.number f ≡ n) × (found.offset f ≡ offset)) ↔ Fault n offset
+
 -- "and a refused call changes no byte of what we lent": before the call it held `lent`, and after it `left`
 unfoldable pub Unchanged : {L : Type 0} → L → L → Answer → Type 0
 Unchanged lent left a = (n offset : ℕ) → a ≡ Refused n offset → left ≡ lent
 
 -- The second sentence, of every public call. What is lent for reading alone is not named: nothing can be written there. Each begins with what the call promises: of the answer a that C gets as one
--- number, `Tells`, in crates/gateway/src/lib.rt; in crates/row/src/lib.rt, `read`; in crates/reader/src/lib.rt, `next`.
+-- number, `Tells`, in crates/gateway/src/lib.rt; in crates/row/src/lib.rt, `read`; in crates/reader/src/lib.rt, `peek`.
 pub record Demand1 : Type 0 where
   pub name : (family setting : ℕ) (m site : List ℕ) (a : Answer) → Names family setting m site a → Refuses (NameFault family setting m site) a
-  pub dhcid : (family setting : ℕ) (m site out : List ℕ) (a : Answer) (left : List ℕ) → request.Writes family setting m site out a left
+  pub dhcid : (family setting : ℕ) (m site out : List ℕ) (a : Answer) (left : List ℕ) → request.WritesDhcid family setting m site out a left
       → Refuses (DhcidFault family setting m site out) a × Unchanged out left a
   pub listing : (t : List ℕ) (a : Answer) → Checks t a → Refuses (ListingFault t) a
   pub row : (t : List ℕ) (lent handed : List Record) (a : Answer) → RowRead t lent handed a → Refuses (RowFault (length lent) t) a × Unchanged lent handed a
-  pub reader : (t : List ℕ) (at : ℕ) (s : Step) → Answers t at s → (n offset : ℕ) → (s .found ≡ found.Refused n offset) ↔ StepFault t at n offset
+  pub reader : (t : List ℕ) (at : ℕ) (s : Step) → StepIs t at s → RefusesStep (StepFault t at) (s .found)
   pub add : (b name dhcid : List ℕ) (family : ℕ) (address : List ℕ) (policy : ℕ) (a : Answer) (left : List ℕ) → Adds 64 b name dhcid family address policy a left
       → Refuses (InOrder (addTests b name dhcid family address policy)) a × Unchanged b left a
   pub remove : (b name dhcid : List ℕ) (family : ℕ) (address : List ℕ) (a : Answer) (left : List ℕ) → Removes 64 b name dhcid family address a left

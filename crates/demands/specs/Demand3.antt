@@ -1,16 +1,16 @@
--- The customer's third demand.
---
---   "For every listing of at most 65,536 bytes and every row that we lend: the listing is accepted exactly when there is a list of records that it spells by the grammar, with no more records than the row
---   has places. The grammar is written down without the reader. Any two lists that one listing spells are the same list. What an accepted listing hands us is that list, whole and in order: the count is the
---   list's length, and the row's places from the first on hold its records in turn."
-use Prim.Native.Nat.{ℕ, _≤_}
+-- The customer's third demand, of every listing and every row. Its sentences stand one by one beside the fields that state them in `row`, specs/Demand3.antt; here stands the number that the customer
+-- writes, the most bytes of a listing.
+use Prim.Native.Nat.{ℕ}
 use mathlib.Core.List.{List}
-use lib.ListN.{length}
 use Rattle.base.specs.declared.Answer.{Answer}
 use Rattle.entry.specs.declared.Record.{Record}
 use Rattle.row.specs.Demand3 as row
 use Rattle.row.specs.Row.{RowRead}
 
--- the sentences one by one, of one listing and one row: row, specs/Demand3.antt. The grammar is grammar, specs/Listing.antt; it cites no reader
+-- the listing t was read into a row that held the places lent and now holds the places handed; a was answered
+abbrev pub Demanded : List ℕ → List Record → List Record → Answer → Type 0
+Demanded t lent handed a = row.Demand3 65536 t lent handed a
+
+-- it follows from what the row call promises (crates/row/src/lib.rt, `read`)
 pub record Demand3 : Type 0 where
-  pub row : (t : List ℕ) (lent handed : List Record) (a : Answer) → RowRead t lent handed a → length t ≤ 65536 → row.Demand3 t lent handed a
+  pub row : (t : List ℕ) (lent handed : List Record) (a : Answer) → RowRead t lent handed a → Demanded t lent handed a

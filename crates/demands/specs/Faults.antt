@@ -63,7 +63,10 @@ StepFault t at n offset = Gives t at [] (refusal n offset)
 
 -- ---- the table, of 64 names
 
--- P holds of the entries that the bytes b are
+-- P holds of the entries that the bytes b are. Of bytes that are no sound table there are none, so that whatever P says holds of them. No answer hangs on it: in every row below the test for
+-- refusal 40 stands before those that begin with `Of`, and the first test that fails decides.
+-- An example, a table of one byte: it is not sound. Of a clear of the name `a.` in it the tests are 40 (the table is sound), which fails; 9 (the name is proper), which holds; 33 (the name stands in the
+-- table), which holds of no entries, though no name stands there. The first that fails is 40, and 40 is what the call answers.
 abbrev pub Of : List ℕ → (List TableEntry → Type 0) → Type 0
 Of b P = (s : Sound 64 b) → P (s .table)
 

@@ -1,21 +1,23 @@
 -- What C gets of a call, as the functions of src/lib.rt promise it: what the call itself promises and what the demands say of it, of one and the same answer.
-use Prim.Native.Nat.{ℕ, _≤_, _<_}
+use Prim.Native.Nat.{ℕ, _≤_}
 use mathlib.Core.Path.{_≡_}
 use mathlib.Core.List.{List}
 use lib.ListN.{length, take}
-use Rattle.base.specs.Answer.{forC, Tells, TakenApart, IsAccepted}
+use Rattle.base.specs.Answer.{value, forC, Tells, TakenApart, IsAccepted}
 use Rattle.base.specs.declared.Answer.{Answer}
 use Rattle.base.specs.declared.Answer.the-variants.{Refused}
-use Rattle.dhcid.specs.Chosen.{Names}
+use Rattle.dhcid.specs.Chosen.{Chooses, Names, NameApart}
 use Rattle.dhcid.specs.Dhcid as request
+use Rattle.dhcid.specs.declared.Chosen.{Chosen}
 use Rattle.listing.specs.Reading.{Checks}
-use Rattle.slots.specs.Form.{Sound}
+use Rattle.listing.specs.Giving.{StepIs}
+use Rattle.listing.specs.declared.Step.{Step}
 use Rattle.table.specs.Calls.{Adds, Removes, Clears}
 use Rattle.table.specs.Demand2.{SoundAdd, SoundRemove, SoundClear}
 use Rattle.records.specs.Calls.{Writes, Loads}
-use Rattle.demands.specs.Faults.{InOrder, NameFault, DhcidFault, ListingFault, LoadFault, addTests, removeTests, clearTests, writeTests}
-use Rattle.demands.specs.Demand1.{Refuses, Unchanged}
-use Rattle.demands.specs.Demand2.{IsRfc4701, AddsClient, RemovesAddress, ClearsName}
+use Rattle.demands.specs.Faults.{InOrder, Of, NameFault, DhcidFault, ListingFault, StepFault, LoadFault, addTests, removeTests, clearTests, writeTests}
+use Rattle.demands.specs.Demand1.{Refuses, RefusesStep, Unchanged}
+use Rattle.demands.specs.Demand2.{IsRfc4701, SameTable, AddsClient, RemovesAddress, ClearsName}
 
 -- the number r tells the answer, of which P holds; and taking r apart as include/vichrelka.h does gives back what the answer says (base, specs/Answer.antt), since no refusal has the number 0
 pub record ToldC (r : ℕ) (P : Answer → Type 0) : Type 0 where
@@ -25,30 +27,36 @@ pub record ToldC (r : ℕ) (P : Answer → Type 0) : Type 0 where
   pub numbered : (offset : ℕ) → answer ≡ Refused 0 offset → ⊥
   pub holds : P answer
 
+-- and the value taken apart as the header does is the choice: the source, the start and the length
 abbrev pub NameTold : ℕ → ℕ → List ℕ → List ℕ → Answer → Type 0
-NameTold family setting m site a = Names family setting m site a × Refuses (NameFault family setting m site) a
+NameTold family setting m site a =
+    Names family setting m site a × Refuses (NameFault family setting m site) a × ((c : Chosen) → Chooses family setting m site c → NameApart a c)
 
 abbrev pub DhcidTold : ℕ → ℕ → List ℕ → List ℕ → List ℕ → Answer → List ℕ → Type 0
 DhcidTold family setting m site out a left =
-    request.Writes family setting m site out a left × Refuses (DhcidFault family setting m site out) a × Unchanged out left a
+    request.WritesDhcid family setting m site out a left × Refuses (DhcidFault family setting m site out) a × Unchanged out left a
     × (IsAccepted a → IsRfc4701 family setting m site out a left)
 
 abbrev pub CheckTold : List ℕ → Answer → Type 0
 CheckTold t a = Checks t a × Refuses (ListingFault t) a
 
+-- no number for C: the held reader's step itself
+abbrev pub StepTold : List ℕ → ℕ → Step → Type 0
+StepTold t at s = StepIs t at s × RefusesStep (StepFault t at) (s .found)
+
 abbrev pub AddTold : List ℕ → List ℕ → List ℕ → ℕ → List ℕ → ℕ → Answer → List ℕ → Type 0
 AddTold b name dhcid family address policy a left =
     Adds 64 b name dhcid family address policy a left × Refuses (InOrder (addTests b name dhcid family address policy)) a × Unchanged b left a
-    × (SoundAdd 64 b name dhcid family address policy → (s : Sound 64 b) → AddsClient (s .table) name dhcid family address policy a left)
+    × (SoundAdd 64 b name dhcid family address policy → Of b (λ t. AddsClient t name dhcid family address policy a left))
 
 abbrev pub RemoveTold : List ℕ → List ℕ → List ℕ → ℕ → List ℕ → Answer → List ℕ → Type 0
 RemoveTold b name dhcid family address a left =
     Removes 64 b name dhcid family address a left × Refuses (InOrder (removeTests b name dhcid family address)) a × Unchanged b left a
-    × (SoundRemove 64 b name dhcid family address → (s : Sound 64 b) → RemovesAddress (s .table) name dhcid family address a left)
+    × (SoundRemove 64 b name dhcid family address → Of b (λ t. RemovesAddress t name dhcid family address a left))
 
 abbrev pub ClearTold : List ℕ → List ℕ → Answer → List ℕ → Type 0
 ClearTold b name a left =
-    Clears 64 b name a left × Refuses (InOrder (clearTests b name)) a × Unchanged b left a × (SoundClear 64 b name → (s : Sound 64 b) → ClearsName (s .table) name a left)
+    Clears 64 b name a left × Refuses (InOrder (clearTests b name)) a × Unchanged b left a × (SoundClear 64 b name → Of b (λ t. ClearsName t name a left))
 
 abbrev pub WriteTold : List ℕ → List ℕ → Answer → List ℕ → Type 0
 WriteTold b out a left = Writes 64 b out a left × Refuses (InOrder (writeTests b out)) a × Unchanged out left a
@@ -56,8 +64,12 @@ WriteTold b out a left = Writes 64 b out a left × Refuses (InOrder (writeTests 
 abbrev pub LoadTold : List ℕ → List ℕ → Answer → List ℕ → Type 0
 LoadTold t area a left = Loads 65536 64 t area a left × Refuses (LoadFault t area) a × Unchanged area left a
 
--- the table with the bytes b was written into an output that held `out` and now holds `left`; then the bytes that the write says that it wrote were loaded into an area that held `area` and now holds `after`, and r
--- was answered. Where it says more than the output has, it was refused: r is its answer, and the area is as it was
+-- the table with the bytes b was written into an output that held `out` and now holds `left`. A refusal of the write is the answer r, and the area is as it was; else as many bytes of the output as
+-- the write's value were loaded into an area that held `area` and now holds `after`, and r was answered to that
 pub data Carried (b out left area : List ℕ) (r : ℕ) (after : List ℕ) : Type 0 where
-  not-written : Tells r (λ a. Writes 64 b out a left) → length left < r → after ≡ area → Carried b out left area r after
-  loaded : (w : ℕ) → Tells w (λ a. Writes 64 b out a left) → w ≤ length left → Tells r (λ a. Loads 65536 64 (take w left) area a after) → Carried b out left area r after
+  not-written : (n offset : ℕ) → Tells r (λ a. Writes 64 b out a left × (a ≡ Refused n offset)) → after ≡ area → Carried b out left area r after
+  loaded : (w : Answer) → Writes 64 b out w left → IsAccepted w → Tells r (λ a. Loads 65536 64 (take (value w) left) area a after) → Carried b out left area r after
+
+-- and where the write was accepted, and the area has room for a table, it is the same table
+abbrev pub CarriedSame : List ℕ → List ℕ → List ℕ → List ℕ → ℕ → List ℕ → Type 0
+CarriedSame b out left area r after = (w : Answer) → Writes 64 b out w left → IsAccepted w → 19968 ≤ length area → ToldC r (λ a. SameTable b area a after)

@@ -1,6 +1,7 @@
 // The calls for C once more, each with the customer's demands as its promise beside its own. So the demands are proved of the code, and not of definitions that might
-// have drifted from it: each function calls the one that ships, with whatever it is given. None of this is in the archive. The row call and the held reader
-// are not called here, as the borrow checker does not cover what they lend: `demand-1` and `demand-3` are about their promises.
+// have drifted from it: each function calls the one that ships, with whatever it is given. None of this is in the archive. The row call is called with a row of four
+// places, since the borrow checker does not cover a lent row of any length; of every row `demand-3` is about the row call's promise.
+use entry::Record;
 use gateway::vichrelka_dhcid;
 use gateway::vichrelka_listing_check;
 use gateway::vichrelka_name;
@@ -9,10 +10,11 @@ use gateway::vichrelka_table_clear;
 use gateway::vichrelka_table_load;
 use gateway::vichrelka_table_remove;
 use gateway::vichrelka_table_write;
-ghost use Prim.Native.Nat.{_≤_};
-ghost use lib.ListN.{length};
-ghost use Rattle.slots.specs.Form.{Sound};
-ghost use Rattle.demands.specs.Demand2.{SameTable};
+use listing::Step;
+use reader::peek_at;
+use row::Four;
+use row::read_four;
+ghost use Rattle.demands.specs.Demand3.{Demanded};
 ghost use Rattle.demands.specs.Told as spec;
 
 pub fn name(family: u32, setting: u32, message: &[u8], site: &[u8]) -> u64
@@ -76,14 +78,29 @@ pub fn table_load(table: &mut [u8], text: &[u8]) -> u64
     vichrelka_table_load(table, text)
 }
 
-// A table written as a listing, and that listing loaded into another area. A write that is not refused answers no more than the output has.
+// A table written as a listing, and that listing loaded into another area.
 pub fn table_carried(table: &[u8], out: &mut [u8], area: &mut [u8]) -> u64
     ensures steps { λ r. ⌜ spec.Carried (now (table .entry)) (now (out .entry)) (now (out .exit)) (now (area .entry)) r (now (area .exit)) ⌝ }
-    ensures same { λ r. ⌜ (Sound 64 (now (table .entry)) → 56512 ≤ length (now (out .entry)) → 19968 ≤ length (now (area .entry)) → spec.ToldC r (λ a. SameTable (now (table .entry)) (now (area .entry)) a (now (area .exit)))) ⌝ }
+    ensures same { λ r. ⌜ spec.CarriedSame (now (table .entry)) (now (out .entry)) (now (out .exit)) (now (area .entry)) r (now (area .exit)) ⌝ }
 {
     let written = vichrelka_table_write(table, out);
-    if written > out.len() as u64 {
+    if written % 4294967296 != 0 {
         return written;
     }
-    vichrelka_table_load(area, &out[..written as usize])
+    let len = (written / 4294967296) as usize;
+    vichrelka_table_load(area, &out[..len])
+}
+
+// A listing read into a row of four places.
+pub fn row_read(text: &[u8], places: [Record; 4]) -> Four
+    ensures { λ r. ⌜ Demanded (now (text .entry)) places (r .row) (r .answer) ⌝ }
+{
+    read_four(text, places)
+}
+
+// The held reader, asked at an offset.
+pub fn listing_step(text: &[u8], at: usize) -> Step
+    ensures { λ s. ⌜ spec.StepTold (now (text .entry)) at s ⌝ }
+{
+    peek_at(text, at)
 }
