@@ -1,5 +1,5 @@
-# For the scripts of this folder that test the library from C: they source this file and call, in this order, `begin`, then `header` or
-# `build` and `compare`, then `finish` of tests/texts.bash, which comes with it. Settings from outside:
+# For the scripts of this folder that test the library from C: they source this file and call, in this order, `begin`, then `build` and `compare` or
+# what they have themselves, then `finish` of tests/texts.bash, which comes with it. Settings from outside:
 #   SEED, CASES        the generated cases (default 1, and what the script says)
 #   JOBS               processes (default 2)
 #   VICHRELKA_ARCHIVE  a static library to test in place of the one that `make` builds, once for all scripts
@@ -21,14 +21,6 @@ begin() {
     make --no-print-directory "$archive" >"$out/make.log" 2>&1 || stop "'make $archive' failed: run it to see why"
   fi
   [ -f "$archive" ] || stop "there is no $archive"
-}
-
-# header LANGUAGE COMPILER..: compiles tests/header.c, links and runs it
-header() {
-  local language=$1
-  shift
-  # shellcheck disable=SC2086
-  if "$@" $warn -Iinclude -o "$out/header" && "$out/header"; then pass; else fail "the header fails as $language"; fi
 }
 
 # sanitizers: the flags for AddressSanitizer and UBSan, as $sanitize; none if this compiler does not have them, which is said
