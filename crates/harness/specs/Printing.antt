@@ -15,6 +15,10 @@ hexadecimal (b ∷ bs) = hexDigit (b / 16) ∷ hexDigit (b % 16) ∷ hexadecimal
 unfoldable pub refusal : ℕ → ℕ → List ℕ
 refusal number offset = ascii "refused " ++ decimal 20 number ++ ascii " at " ++ decimal 20 offset
 
+-- a record: the owner's bytes, the type's number and the data
+unfoldable pub resourceRecord : List ℕ → ℕ → List ℕ → List ℕ
+resourceRecord owner rtype rdata = hexadecimal owner ++ ascii " " ++ decimal 20 rtype ++ ascii " " ++ hexadecimal rdata
+
 -- what of x there is room for in `to`, from index `at` on
 abbrev pub fitting : List ℕ → ℕ → List ℕ → List ℕ
 fitting to at x = take (length to - at) x

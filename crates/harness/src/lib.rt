@@ -9,7 +9,7 @@ ghost use Rattle.base.specs.Bytes.{overlay};
 ghost use Rattle.base.specs.Logic.{Every, Decides};
 ghost use Rattle.text.specs.Digits.{decimal, hexDigit};
 ghost use Rattle.harness.specs.Finding.{FirstFrom};
-ghost use Rattle.harness.specs.Printing.{hexadecimal, refusal, fitting, followed};
+ghost use Rattle.harness.specs.Printing.{hexadecimal, refusal, resourceRecord, fitting, followed};
 
 // Is each of the bytes b?
 pub fn is_all(bytes: &[u8], b: u8) -> bool
@@ -138,5 +138,15 @@ impl Line {
             .number(number as u64)
             .text(b" at ")
             .number(offset as u64)
+    }
+    // The owner's bytes, the type's number and the data.
+    pub fn resource_record(self, owner: &[u8], rtype: u8, rdata: &[u8]) -> Self
+        ensures { λ r. ⌜ r ≡ followed self (resourceRecord (now (owner .entry)) rtype (now (rdata .entry))) ⌝ }
+    {
+        self.hex(owner)
+            .text(b" ")
+            .number(rtype as u64)
+            .text(b" ")
+            .hex(rdata)
     }
 }

@@ -20,11 +20,7 @@ fn print(line: Line) {
 }
 
 fn with_record(line: Line, owner: &[u8], len: usize, rtype: u8, rdata: &[u8]) -> Line {
-    let record = line.hex(first(owner, len))
-        .text(b" ")
-        .number(rtype as u64)
-        .text(b" ")
-        .hex(rdata);
+    let record = line.resource_record(first(owner, len), rtype, rdata);
     if is_all(rest(owner, len), 0) {
         return record.text(b" and zeros");
     }
