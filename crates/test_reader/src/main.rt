@@ -1,8 +1,9 @@
 // Listings read one record at a time, through the reader that holds on to the listing. What each line must be stands in the file `stdout`, written before this
 // program first ran, from document 01 ("The listing's grammar": entries, words and data, the faults of an entry with their place, and of its last paragraph the
-// records before the first faulty entry, then its refusal, 17 first, and both asked again; "Refusal numbers"; the example of "The table") and RFC 4701's 3.6.3
-// in hexadecimal. Each answer is asked for where the one before says to go on. A record is printed whole: the owner's bytes, the type, the 35 bytes of data, and
-// whether the bytes after the owner are zeros; with the end and with a refusal comes a record of zeros, or the line would say so.
+// records before the first faulty entry, then its refusal, 17 first, and both asked again; "Refusal numbers"; the example of "The table";
+// docs/RULES.md, 6, 2 and 7.8) and RFC 4701's 3.6.3 in hexadecimal. Each answer is asked for where the one before says to go on. A record is printed
+// whole: the owner's bytes, the type, the 35 bytes of data, and whether the bytes after the owner are zeros; with the end and with a refusal comes a
+// record of zeros, or the line would say so.
 use base::slice::put;
 use entry::Record;
 use harness::Line;
