@@ -2,6 +2,7 @@ pub mod AnswerLaws
 pub mod RequestLaws
 pub mod ListingLaws
 pub mod TableLaws
+pub mod TextLaws
 pub mod TellLaws
 pub mod DhcidLaws
 pub mod ChangeLaws

@@ -19,13 +19,13 @@ use Rattle.slots.specs.Form.{TableEntry, Sound}
 use Rattle.slots.specs.Promise.{isAddress}
 use Rattle.slots.proofs.Theorems.{one-sound-table}
 use Rattle.table.specs.Steps.{StepOutcome, find}
-use Rattle.table.specs.Calls.{KnownPolicy, nameTests, argumentTests, Adds, Removes, Clears}
+use Rattle.table.specs.Calls.{KnownPolicy, nameTests, argumentTests, Adds, Removes, Clears, Finds, Counts}
 use Rattle.table.proofs.CaseLaws.{Adding, add-case, Removing, remove-case, Clearing, clear-case}
 use Rattle.table.proofs.DemandLaws.{is-address}
 use Rattle.records.specs.Written.{listingOf}
 use Rattle.records.specs.Calls.{Writes}
 use Rattle.slots.specs.Sizes.{mostNames}
-use Rattle.demands.specs.Faults.{Of, Stands, ByHand, HeldBy, addTests, removeTests, clearTests, writeTests}
+use Rattle.demands.specs.Faults.{Of, Stands, ByHand, HeldBy, addTests, removeTests, clearTests, findTests, countTests, writeTests}
 use Rattle.demands.proofs.AnswerLaws.{InRow, after}
 
 -- ---- what stands under a name
@@ -171,19 +171,33 @@ module _ (b name dhcid : List ℕ) (family : ℕ) (address : List ℕ) where
         after (argumentTests mostNames (KnownFamily family) b name dhcid family address) removals (s .all-hold)
         (removed (s .sound) (s .answer) (remove-case eqBytes (s .sound .table) n dhcid (familyOf family) address))
 
-module _ (b name : List ℕ) (a : Answer) (left : List ℕ) where
-  abbrev clearance : List Test
-  clearance = record { number = 33; holds = Of b (Stands (canonical name)) } ∷ []
+-- 33 of a clear and of a find
+abbrev standing : List ℕ → List ℕ → List Test
+standing b name = record { number = 33; holds = Of b (Stands (canonical name)) } ∷ []
 
-  cleared : (s : Sound mostNames b) {o : StepOutcome (List ℕ)} → a ≡ o .answer → Clearing (s .table) (canonical name) o → InRow a clearance
+module _ (b name : List ℕ) (a : Answer) (left : List ℕ) where
+  cleared : (s : Sound mostNames b) {o : StepOutcome (List ℕ)} → a ≡ o .answer → Clearing (s .table) (canonical name) o → InRow a (standing b name)
   unfolding Stands
   cleared s e (Clearing.not-held found o) = InRow.failed 33 (answered e o) (inl (fails b s (Stands (canonical name)) (λ h. none-stands (canonical name) (s .table) found (h .1)), refl))
   cleared s e (Clearing.cleared c found o) = InRow.passed 0 (answered e o) (holds b s (Stands (canonical name)) (c, found), tt)
 
   pub clear-in-row : Clears mostNames b name a left → InRow a (clearTests b name)
   unfolding Clears
-  clear-in-row (inl f) = InRow.failed (f .number) (f .answer) (fault-before (nameTests mostNames b name) clearance (f .number) (f .fault))
-  clear-in-row (inr s) = after (nameTests mostNames b name) clearance (s .all-hold) (cleared (s .sound) (s .answer) (clear-case (s .sound .table) (canonical name)))
+  clear-in-row (inl f) = InRow.failed (f .number) (f .answer) (fault-before (nameTests mostNames b name) (standing b name) (f .number) (f .fault))
+  clear-in-row (inr s) = after (nameTests mostNames b name) (standing b name) (s .all-hold) (cleared (s .sound) (s .answer) (clear-case (s .sound .table) (canonical name)))
+
+module _ (b : List ℕ) where
+  module _ (name : List ℕ) (a : Answer) where
+    pub find-in-row : Finds mostNames b name a → InRow a (findTests b name)
+    unfolding Stands
+    find-in-row (Finds.faulty {n = n} f e) = InRow.failed n e (fault-before (nameTests mostNames b name) (standing b name) n f)
+    find-in-row (Finds.not-held s p found e) =
+        InRow.failed 33 e (inr (s, inr (p, inl (fails b s (Stands (canonical name)) (λ h. none-stands (canonical name) (s .table) found (h .1)), refl))))
+    find-in-row (Finds.found s p {e = c} found e) = InRow.passed _ e (s, (p, (holds b s (Stands (canonical name)) (c, found), tt)))
+
+  pub count-in-row : (a : Answer) → Counts mostNames b a → InRow a (countTests b)
+  count-in-row a (Counts.not-sound f e) = InRow.failed 40 e (inl (f, refl))
+  count-in-row a (Counts.counted s e) = InRow.passed _ e (s, tt)
 
 module _ (b out : List ℕ) (a : Answer) (left : List ℕ) where
   abbrev Short : List TableEntry → Type 0

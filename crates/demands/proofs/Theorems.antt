@@ -4,6 +4,7 @@ use native.Mathlib.Omega.{arith}
 use Rattle.listing.specs.Reading.{limit}
 use Rattle.row.proofs.Theorems as row
 use Rattle.row.proofs.Theorems.{refused-unchanged}
+use Rattle.name_text.proofs.Theorems as text
 use Rattle.table.proofs.Theorems.{refused-add, refused-remove, refused-clear}
 use Rattle.records.proofs.Theorems.{refused-write, refused-load}
 use Rattle.slots.specs.Sizes.{mostNames}
@@ -15,7 +16,8 @@ use Rattle.demands.proofs.RequestLaws.{name-refuses, dhcid-refuses, dhc
 use Rattle.demands.proofs.DhcidLaws.{dhcid-is}
 use Rattle.demands.proofs.ChangeLaws.{same-table, enough-always, add-is, remove-is, clear-is}
 use Rattle.demands.proofs.ListingLaws.{listing-refuses, row-refuses, step-refuses, load-refuses}
-use Rattle.demands.proofs.TableLaws.{add-in-row, remove-in-row, clear-in-row, write-in-row}
+use Rattle.demands.proofs.TableLaws.{add-in-row, remove-in-row, clear-in-row, find-in-row, count-in-row, write-in-row}
+use Rattle.demands.proofs.TextLaws.{from-text-in-row, to-text-in-row}
 
 pub demand-1 : Demand1
 unfolding Unchanged
@@ -23,6 +25,8 @@ demand-1 =
     record {
       name = name-refuses;
       dhcid = λ family setting m site out a left w. (dhcid-refuses family setting m site out a left w, dhcid-unchanged family setting m site out a left w);
+      from-text = λ w out a left h. (by-order _ (from-text-in-row w out a left h), text.refused-read w out a left h);
+      to-text = λ n out a left h. (by-order _ (to-text-in-row n out a left h), text.refused-write n out a left h);
       listing = listing-refuses;
       row = λ t lent handed a h. (row-refuses t lent handed a h, refused-unchanged t lent handed a h);
       reader = step-refuses;
@@ -32,6 +36,8 @@ demand-1 =
       );
       remove = λ b name dhcid family address a left h. (by-order _ (remove-in-row b name dhcid family address a left h), refused-remove mostNames b name dhcid family address a left h);
       clear = λ b name a left h. (by-order _ (clear-in-row b name a left h), refused-clear mostNames b name a left h);
+      find = λ b name a h. by-order _ (find-in-row b name a h);
+      count = λ b a h. by-order _ (count-in-row b a h);
       write = λ b out a left h. (by-order _ (write-in-row b out a left h), refused-write mostNames b out a left h);
       load = λ t area a left h. (load-refuses t area a left h, refused-load limit mostNames t area a left h);
     }

@@ -23,11 +23,13 @@ use Rattle.listing.specs.Giving.{StepIs}
 use Rattle.listing.specs.declared.Found.{Found}
 use Rattle.listing.specs.declared.Step.{Step}
 use Rattle.row.specs.Row.{RowRead}
-use Rattle.table.specs.Calls.{Adds, Removes, Clears}
+use Rattle.name_text.specs.Calls.{ReadsText, WritesText}
+use Rattle.table.specs.Calls.{Adds, Removes, Clears, Finds, Counts}
 use Rattle.records.specs.Calls.{Writes, Loads}
-use Rattle.demands.specs.Faults.{InOrder, NameFault, DhcidFault, ListingFault, RowFault, StepFault, LoadFault, addTests, removeTests, clearTests, writeTests}
+use Rattle.demands.specs.Faults.{InOrder, NameFault, DhcidFault, ListingFault, RowFault, StepFault, LoadFault, fromTextTests, toTextTests, addTests, removeTests, clearTests, findTests, countTests, writeTests}
 
--- "bad input gets the refusal number that document 01 fixes": the call answered a, which is a refusal exactly if its input is bad, with that number at that offset
+-- "bad input gets the refusal number that document 01 fixes" (docs/RULES.md, 2.2 and 8): the call answered a, which is a refusal exactly if its input
+-- is bad, with that number at that offset
 unfoldable pub Refuses : (ℕ → ℕ → Type 0) → Answer → Type 0
 Refuses Fault a = (n offset : ℕ) → (a ≡ Refused n offset) ↔ Fault n offset
 
@@ -45,6 +47,8 @@ pub record Demand1 : Type 0 where
   pub name : (family setting : ℕ) (m site : List ℕ) (a : Answer) → Names family setting m site a → Refuses (NameFault family setting m site) a
   pub dhcid : (family setting : ℕ) (m site out : List ℕ) (a : Answer) (left : List ℕ) → request.WritesDhcid family setting m site out a left
       → Refuses (DhcidFault family setting m site out) a × Unchanged out left a
+  pub from-text : (text out : List ℕ) (a : Answer) (left : List ℕ) → ReadsText text out a left → Refuses (InOrder (fromTextTests text out)) a × Unchanged out left a
+  pub to-text : (name out : List ℕ) (a : Answer) (left : List ℕ) → WritesText name out a left → Refuses (InOrder (toTextTests name out)) a × Unchanged out left a
   pub listing : (t : List ℕ) (a : Answer) → Checks t a → Refuses (ListingFault t) a
   pub row : (t : List ℕ) (lent handed : List Record) (a : Answer) → RowRead t lent handed a → Refuses (RowFault (length lent) t) a × Unchanged lent handed a
   pub reader : (t : List ℕ) (at : ℕ) (s : Step) → StepIs t at s → RefusesStep (StepFault t at) (s .found)
@@ -53,5 +57,7 @@ pub record Demand1 : Type 0 where
   pub remove : (b name dhcid : List ℕ) (family : ℕ) (address : List ℕ) (a : Answer) (left : List ℕ) → Removes 64 b name dhcid family address a left
       → Refuses (InOrder (removeTests b name dhcid family address)) a × Unchanged b left a
   pub clear : (b name : List ℕ) (a : Answer) (left : List ℕ) → Clears 64 b name a left → Refuses (InOrder (clearTests b name)) a × Unchanged b left a
+  pub find : (b name : List ℕ) (a : Answer) → Finds 64 b name a → Refuses (InOrder (findTests b name)) a
+  pub count : (b : List ℕ) (a : Answer) → Counts 64 b a → Refuses (InOrder (countTests b)) a
   pub write : (b out : List ℕ) (a : Answer) (left : List ℕ) → Writes 64 b out a left → Refuses (InOrder (writeTests b out)) a × Unchanged out left a
   pub load : (t area : List ℕ) (a : Answer) (left : List ℕ) → Loads 65536 64 t area a left → Refuses (LoadFault t area) a × Unchanged area left a

@@ -55,7 +55,7 @@ pub record AddsClient (t : List TableEntry) (name dhcid : List ℕ) (family : �
   pub others : others (canonical name) (sound .table) ≡ others (canonical name) t
   pub order : Ordered (canonical name) (names t) (names (sound .table))
 
--- ---- "A remove and a clear do what document 01 says and no more."
+-- ---- "A remove and a clear do what document 01 says and no more." (docs/RULES.md, 7.4 and 7.5)
 
 -- the name's entry in t has that client's DHCID and that address
 pub record HoldsAddress (t : List TableEntry) (name dhcid : List ℕ) (family : ℕ) (address : List ℕ) : Type 0 where

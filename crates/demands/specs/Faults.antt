@@ -1,5 +1,7 @@
--- Bad input, call by call: with which number document 01 refuses it, by its order, and at which offset. Where an order is a row of numbers it stands here as a row of tests, and the first one that fails
--- decides (base, specs/Order.antt); the orders inside a message and inside a listing are those of the definitions that are named. The offset, document 01's place, is 0 but for a listing's faulty entry.
+-- Bad input, call by call: with which number document 01 (docs/RULES.md, 2.2 and 8) refuses it, by its order, and at which offset. Where an order is
+-- a row of numbers it stands here as a row of tests, and the first one that fails decides (base, specs/Order.antt); the orders inside a message and
+-- inside a listing are those of the definitions that are named. The offset, document 01's place (docs/RULES.md, 1.3), is 0 but for a listing's faulty
+-- entry.
 use Prim.Native.Nat.{ℕ, _+_, _≤_, _<_}
 use mathlib.Core.Path.{_≡_}
 use mathlib.Core.Logic.{_⊎_}
@@ -8,8 +10,8 @@ use mathlib.Core.Option.{none, some}
 use lib.ListN.{length}
 use Rattle.base.specs.Family.{KnownFamily}
 use Rattle.base.specs.Order.{Test, FirstFault}
-use Rattle.base.specs.Refusal.{outputShort, hashInputLong, heldByAnother, keptByHand, tableFull, nameNotHeld, addressDiffers, tableNotSound}
-use Rattle.name.specs.Name.{canonical}
+use Rattle.base.specs.Refusal.{noProperName, outputShort, hashInputLong, heldByAnother, keptByHand, tableFull, nameNotHeld, addressDiffers, tableNotSound}
+use Rattle.name.specs.Name.{Proper, SpellsName, canonical}
 use Rattle.message.specs.Request.{identifierBytes}
 use Rattle.message.specs.declared.Request.{Request}
 use Rattle.dhcid.specs.Chosen.{Says, Chooses, nameBytes}
@@ -47,6 +49,20 @@ RoomFault family setting m site out n offset =
 unfoldable pub DhcidFault : ℕ → ℕ → List ℕ → List ℕ → List ℕ → ℕ → ℕ → Type 0
 DhcidFault family setting m site out n offset = NameFault family setting m site n offset ⊎ RoomFault family setting m site out n offset
 
+-- ---- a name in text
+
+-- read: 9 for a text that spells no name, then 13 for an output with less room than that name in wire form
+abbrev pub fromTextTests : List ℕ → List ℕ → List Test
+fromTextTests text out =
+    record { number = noProperName; holds = (n : List ℕ) × SpellsName text n }
+    ∷ record { number = outputShort; holds = (n : List ℕ) → SpellsName text n → length n ≤ length out } ∷ []
+
+-- written: 9 for a name that is not proper, then 13 for an output with less room than its text
+abbrev pub toTextTests : List ℕ → List ℕ → List Test
+toTextTests name out =
+    record { number = noProperName; holds = Proper name }
+    ∷ record { number = outputShort; holds = (w : List ℕ) → SpellsName w (canonical name) → length w ≤ length out } ∷ []
+
 -- ---- a listing, of at most 65,536 bytes
 
 -- read as a whole: 17, then the first faulty entry and its first fault, at the offset of its first byte (grammar, specs/Outcome.antt and specs/Faults.antt)
@@ -70,7 +86,8 @@ StepFault t at n offset = Gives t at [] (refusal n offset)
 abbrev pub Of : List ℕ → (List TableEntry → Type 0) → Type 0
 Of b P = (s : Sound 64 b) → P (s .table)
 
--- the entry under the name n: that there is one; that nobody holds it, which is document 01's kept by hand; that the client with the DHCID d holds it
+-- the entry under the name n: that there is one; that nobody holds it, which is document 01's kept by hand (docs/RULES.md, 7.1); that the client with
+-- the DHCID d holds it
 unfoldable pub Stands : List ℕ → List TableEntry → Type 0
 Stands n t = (e : TableEntry) × (find n t ≡ some e)
 
@@ -100,6 +117,14 @@ removeTests b name dhcid family address =
 -- Clear: 40, 9, 33
 abbrev pub clearTests : List ℕ → List ℕ → List Test
 clearTests b name = nameTests 64 b name ++ record { number = nameNotHeld; holds = Of b (Stands (canonical name)) } ∷ []
+
+-- Find: the same
+abbrev pub findTests : List ℕ → List ℕ → List Test
+findTests b name = clearTests b name
+
+-- Count: 40
+abbrev pub countTests : List ℕ → List Test
+countTests b = record { number = tableNotSound; holds = Sound 64 b } ∷ []
 
 -- Writing: 40, 13
 abbrev pub writeTests : List ℕ → List ℕ → List Test

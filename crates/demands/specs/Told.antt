@@ -12,10 +12,11 @@ use Rattle.dhcid.specs.declared.Chosen.{Chosen}
 use Rattle.listing.specs.Reading.{Checks}
 use Rattle.listing.specs.Giving.{StepIs}
 use Rattle.listing.specs.declared.Step.{Step}
-use Rattle.table.specs.Calls.{Adds, Removes, Clears}
+use Rattle.name_text.specs.Calls.{ReadsText, WritesText}
+use Rattle.table.specs.Calls.{Adds, Removes, Clears, Finds, Counts}
 use Rattle.table.specs.Demand2.{SoundAdd, SoundRemove, SoundClear}
 use Rattle.records.specs.Calls.{Writes, Loads}
-use Rattle.demands.specs.Faults.{InOrder, Of, NameFault, DhcidFault, ListingFault, StepFault, LoadFault, addTests, removeTests, clearTests, writeTests}
+use Rattle.demands.specs.Faults.{InOrder, Of, NameFault, DhcidFault, ListingFault, StepFault, LoadFault, fromTextTests, toTextTests, addTests, removeTests, clearTests, findTests, countTests, writeTests}
 use Rattle.demands.specs.Demand1.{Refuses, RefusesStep, Unchanged}
 use Rattle.demands.specs.Demand2.{IsRfc4701, SameTable, AddsClient, RemovesAddress, ClearsName}
 
@@ -37,6 +38,12 @@ DhcidTold family setting m site out a left =
     request.WritesDhcid family setting m site out a left × Refuses (DhcidFault family setting m site out) a × Unchanged out left a
     × (IsAccepted a → IsRfc4701 family setting m site out a left)
 
+abbrev pub FromTextTold : List ℕ → List ℕ → Answer → List ℕ → Type 0
+FromTextTold text out a left = ReadsText text out a left × Refuses (InOrder (fromTextTests text out)) a × Unchanged out left a
+
+abbrev pub ToTextTold : List ℕ → List ℕ → Answer → List ℕ → Type 0
+ToTextTold name out a left = WritesText name out a left × Refuses (InOrder (toTextTests name out)) a × Unchanged out left a
+
 abbrev pub CheckTold : List ℕ → Answer → Type 0
 CheckTold t a = Checks t a × Refuses (ListingFault t) a
 
@@ -57,6 +64,12 @@ RemoveTold b name dhcid family address a left =
 abbrev pub ClearTold : List ℕ → List ℕ → Answer → List ℕ → Type 0
 ClearTold b name a left =
     Clears 64 b name a left × Refuses (InOrder (clearTests b name)) a × Unchanged b left a × (SoundClear 64 b name → Of b (λ t. ClearsName t name a left))
+
+abbrev pub FindTold : List ℕ → List ℕ → Answer → Type 0
+FindTold b name a = Finds 64 b name a × Refuses (InOrder (findTests b name)) a
+
+abbrev pub CountTold : List ℕ → Answer → Type 0
+CountTold b a = Counts 64 b a × Refuses (InOrder (countTests b)) a
 
 abbrev pub WriteTold : List ℕ → List ℕ → Answer → List ℕ → Type 0
 WriteTold b out a left = Writes 64 b out a left × Refuses (InOrder (writeTests b out)) a × Unchanged out left a

@@ -5,8 +5,12 @@ use entry::Record;
 use gateway::vichrelka_dhcid;
 use gateway::vichrelka_listing_check;
 use gateway::vichrelka_name;
+use gateway::vichrelka_name_from_text;
+use gateway::vichrelka_name_to_text;
 use gateway::vichrelka_table_add;
 use gateway::vichrelka_table_clear;
+use gateway::vichrelka_table_count;
+use gateway::vichrelka_table_find;
 use gateway::vichrelka_table_load;
 use gateway::vichrelka_table_remove;
 use gateway::vichrelka_table_write;
@@ -33,6 +37,18 @@ pub fn dhcid<'a>(
     ensures { λ r. ⌜ spec.ToldC r (λ a. spec.DhcidTold family setting (now (message .entry)) (now (site .entry)) (now (out .entry)) a (now (out .exit))) ⌝ }
 {
     vichrelka_dhcid(family, setting, message, site, out)
+}
+
+pub fn name_from_text(text: &[u8], out: &mut [u8]) -> u64
+    ensures { λ r. ⌜ spec.ToldC r (λ a. spec.FromTextTold (now (text .entry)) (now (out .entry)) a (now (out .exit))) ⌝ }
+{
+    vichrelka_name_from_text(text, out)
+}
+
+pub fn name_to_text(name: &[u8], out: &mut [u8]) -> u64
+    ensures { λ r. ⌜ spec.ToldC r (λ a. spec.ToTextTold (now (name .entry)) (now (out .entry)) a (now (out .exit))) ⌝ }
+{
+    vichrelka_name_to_text(name, out)
 }
 
 pub fn listing_check(text: &[u8]) -> u64
@@ -64,6 +80,18 @@ pub fn table_clear(table: &mut [u8], name: &[u8]) -> u64
     ensures { λ r. ⌜ spec.ToldC r (λ a. spec.ClearTold (now (table .entry)) (now (name .entry)) a (now (table .exit))) ⌝ }
 {
     vichrelka_table_clear(table, name)
+}
+
+pub fn table_find(table: &[u8], name: &[u8]) -> u64
+    ensures { λ r. ⌜ spec.ToldC r (λ a. spec.FindTold (now (table .entry)) (now (name .entry)) a) ⌝ }
+{
+    vichrelka_table_find(table, name)
+}
+
+pub fn table_count(table: &[u8]) -> u64
+    ensures { λ r. ⌜ spec.ToldC r (λ a. spec.CountTold (now (table .entry)) a) ⌝ }
+{
+    vichrelka_table_count(table)
 }
 
 pub fn table_write(table: &[u8], out: &mut [u8]) -> u64

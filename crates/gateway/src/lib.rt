@@ -4,8 +4,9 @@ ghost use Rattle.base.specs.Answer.{Tells};
 ghost use Rattle.listing.specs.Reading.{limit, Checks};
 ghost use Rattle.dhcid.specs.Chosen.{Names};
 ghost use Rattle.dhcid.specs.Dhcid as request;
+ghost use Rattle.name_text.specs.Calls.{ReadsText, WritesText};
 ghost use Rattle.records.specs.Calls.{Writes, Loads};
-ghost use Rattle.table.specs.Calls.{Adds, Removes, Clears};
+ghost use Rattle.table.specs.Calls.{Adds, Removes, Clears, Finds, Counts};
 ghost use Rattle.slots.specs.Sizes.{mostNames};
 
 // uint64_t vichrelka_name(uint32_t family, uint32_t setting, const uint8_t *message, size_t message_len, const uint8_t *site, size_t site_len)
@@ -29,6 +30,22 @@ pub extern "C" fn vichrelka_dhcid<'a>(
     ensures { λ r. ⌜ Tells r (λ a. request.WritesDhcid family setting (now (message .entry)) (now (site .entry)) (now (out .entry)) a (now (out .exit))) ⌝ }
 {
     dhcid::put_dhcid(family, setting, message, site, out).for_c()
+}
+
+// uint64_t vichrelka_name_from_text(const uint8_t *text, size_t text_len, uint8_t *out, size_t out_len)
+#[no_mangle]
+pub extern "C" fn vichrelka_name_from_text(text: &[u8], out: &mut [u8]) -> u64
+    ensures { λ r. ⌜ Tells r (λ a. ReadsText (now (text .entry)) (now (out .entry)) a (now (out .exit))) ⌝ }
+{
+    name_text::read(text, out).for_c()
+}
+
+// uint64_t vichrelka_name_to_text(const uint8_t *name, size_t name_len, uint8_t *out, size_t out_len)
+#[no_mangle]
+pub extern "C" fn vichrelka_name_to_text(name: &[u8], out: &mut [u8]) -> u64
+    ensures { λ r. ⌜ Tells r (λ a. WritesText (now (name .entry)) (now (out .entry)) a (now (out .exit))) ⌝ }
+{
+    name_text::write(name, out).for_c()
 }
 
 // uint64_t vichrelka_listing_check(const uint8_t *text, size_t text_len)
@@ -76,6 +93,22 @@ pub extern "C" fn vichrelka_table_clear(table: &mut [u8], name: &[u8]) -> u64
     ensures { λ r. ⌜ Tells r (λ a. Clears mostNames (now (table .entry)) (now (name .entry)) a (now (table .exit))) ⌝ }
 {
     table::clear(table, name).for_c()
+}
+
+// uint64_t vichrelka_table_find(const uint8_t *table, size_t table_len, const uint8_t *name, size_t name_len)
+#[no_mangle]
+pub extern "C" fn vichrelka_table_find(table: &[u8], name: &[u8]) -> u64
+    ensures { λ r. ⌜ Tells r (λ a. Finds mostNames (now (table .entry)) (now (name .entry)) a) ⌝ }
+{
+    table::find(table, name).for_c()
+}
+
+// uint64_t vichrelka_table_count(const uint8_t *table, size_t table_len)
+#[no_mangle]
+pub extern "C" fn vichrelka_table_count(table: &[u8]) -> u64
+    ensures { λ r. ⌜ Tells r (λ a. Counts mostNames (now (table .entry)) a) ⌝ }
+{
+    table::count(table).for_c()
 }
 
 // uint64_t vichrelka_table_write(const uint8_t *table, size_t table_len, uint8_t *out, size_t out_len)

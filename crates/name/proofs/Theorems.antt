@@ -55,6 +55,10 @@ pub spelled : (n : List ℕ) → Proper n → SpellsName (textOf n) n
 spelled n p =
     record { labels = p .labels; name = p .name; word = ap textOf (p .form) ∙ textOf-wire (p .labels) (p .name .some); form = p .form }
 
+-- what a word spells is a proper name
+pub spelled-proper : (w n : List ℕ) → SpellsName w n → Proper n
+spelled-proper w n s = record { labels = s .labels; name = s .name; form = s .form }
+
 pub one-name : (w n m : List ℕ) → SpellsName w n → SpellsName w m → n ≡ m
 one-name w n m s t = s .form ∙ ap wire (labels-of-text (s .labels) (t .labels) (s .name) (t .name) (sym (s .word) ∙ t .word)) ∙ sym (t .form)
 

@@ -1,4 +1,4 @@
--- A label of a domain name. Document 01, "Names": 1 to 63 bytes, each a letter, a digit, a hyphen or an underscore.
+-- A label of a domain name. Document 01, "Names" (docs/RULES.md, 3.1): 1 to 63 bytes, each a letter, a digit, a hyphen or an underscore.
 use Prim.Native.Nat.{ℕ, _+_, _≤_}
 use mathlib.Core.Bool.{Bool, true, cond, _&&_, _||_}
 use mathlib.Core.Path.{_≡_}

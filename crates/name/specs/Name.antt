@@ -1,4 +1,4 @@
--- Domain names. A name is a list of labels; its wire form and its text are two ways to write that list. Document 01, "Names".
+-- Domain names. A name is a list of labels; its wire form and its text are two ways to write that list. Document 01, "Names" (docs/RULES.md, 3).
 use Prim.Native.Nat.{ℕ, _≤_}
 use mathlib.Core.Path.{_≡_}
 use mathlib.Core.List.{List, [], _∷_, _++_, map}

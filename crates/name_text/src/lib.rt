@@ -1,9 +1,13 @@
 // Names in text: each label followed by a dot.
+use base::Answer;
+use base::refusal::NO_PROPER_NAME;
+use base::refusal::OUTPUT_SHORT;
 use base::slice::put;
 use name::WireName;
 use name::wire::CHUNK;
 use name::wire::LONGEST_LABEL;
 use name::wire::count_not_in_label;
+use name::wire::is_proper;
 use name::wire::put_canonical;
 ghost use mathlib.Core.Path.{_≡_};
 ghost use mathlib.Core.Logic.{_⊎_};
@@ -12,6 +16,7 @@ ghost use lib.ListN.{length, getD, drop};
 ghost use Rattle.base.specs.Bytes.{overlay};
 ghost use Rattle.base.specs.Logic.{Decides};
 ghost use Rattle.name.specs.Promise as spec;
+ghost use Rattle.name_text.specs.Calls as calls;
 
 // The longest name in text: one byte less than in wire form.
 const LONGEST_TEXT: usize = 254;
@@ -131,4 +136,38 @@ pub fn put_text(to: &mut [u8], at: usize, name: &[u8])
         to[at + i] = DOT;
         i += name[i + 1] as usize + 1;
     }
+}
+
+// Reads a name in text into `out`, in canonical wire form, and answers how many bytes it has. Refusals: 9, 13.
+pub fn read(text: &[u8], out: &mut [u8]) -> Answer
+    ensures { λ r. ⌜ calls.ReadsText (now (text .entry)) (now (out .entry)) r (now (out .exit)) ⌝ }
+{
+    let name = from_text(text);
+    let len = name.len as usize;
+    if len == 0 {
+        return Answer::refused(NO_PROPER_NAME);
+    }
+    if out.len() < len {
+        return Answer::refused(OUTPUT_SHORT);
+    }
+    let bytes: &[u8] = &name.bytes;
+    put(out, 0, &bytes[..len]);
+    Answer::Accepted(len as u32)
+}
+
+// Writes a name in wire form into `out`, as text in lower case, and answers how many bytes that has. Refusals: 9, 13.
+pub fn write(name: &[u8], out: &mut [u8]) -> Answer
+    ensures { λ r. ⌜ calls.WritesText (now (name .entry)) (now (out .entry)) r (now (out .exit)) ⌝ }
+{
+    if !is_proper(name) {
+        return Answer::refused(NO_PROPER_NAME);
+    }
+    let n = name.len();
+    if out.len() < n - 1 {
+        return Answer::refused(OUTPUT_SHORT);
+    }
+    let mut bytes = [0u8; 255];
+    put_canonical(&mut bytes, 0, name);
+    put_text(out, 0, &bytes[..n]);
+    Answer::Accepted((n - 1) as u32)
 }

@@ -74,6 +74,22 @@ pub fn find(table: &[u8], name: &[u8]) -> usize
     i
 }
 
+// How many names stand: the slots before the first unused one.
+pub fn count(table: &[u8]) -> usize
+    requires { ⌜ Entries mostNames (now table) ⌝ }
+    ensures { λ r. ⌜ OfTable mostNames (now (table .entry)) (λ t. r ≡ length t) ⌝ }
+{
+    let mut i: usize = 0;
+    while i < SLOTS {
+        let len = table[slot::SIZE * i];
+        if len == 0 {
+            return i;
+        }
+        i += 1;
+    }
+    i
+}
+
 // Does the name in slot i stand in no slot before it?
 fn is_first(table: &[u8], i: usize) -> bool
     requires { ⌜ (Entries mostNames (now table)) × (i < mostNames) ⌝ }

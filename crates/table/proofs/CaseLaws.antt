@@ -1,4 +1,4 @@
--- The steps case by case, one for each sentence of document 01. Assumes nothing.
+-- The steps case by case, one for each sentence of document 01 (docs/RULES.md, 7.3 to 7.5). Assumes nothing.
 use Prim.Native.Nat.{ℕ, _≤_, _<_}
 use mathlib.Core.Bool.{Bool, true, false, cond}
 use mathlib.Core.Path.{_≡_, refl}

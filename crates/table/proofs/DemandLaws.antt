@@ -217,7 +217,7 @@ module _ (limit : ℕ) (b : List ℕ) (s : Sound limit b) (n : List ℕ) where
     pub add-installs : MayInstall limit (s .table) n d policy → Stands (add limit eqBytes (s .table) n d f x policy)
     add-installs m = installed-by (add limit eqBytes (s .table) n d f x policy) (add-case eqBytes (s .table) n d f x limit policy) m
 
-    -- and answers and leaves under the name what document 01 says
+    -- and answers and leaves under the name what document 01 says (docs/RULES.md, 7.3)
     outcome-is : {r : Answer} {e : TableEntry} (v : ℕ) (u : List TableEntry) → add limit eqBytes (s .table) n d f x policy ≡ acceptedWith v u → Accepted v ≡ r → find n u ≡ some e
         → (add limit eqBytes (s .table) n d f x policy .answer ≡ r) × (find n (add limit eqBytes (s .table) n d f x policy .table) ≡ some e)
     outcome-is v u o a found = (ap (λ (y : StepOutcome (List ℕ)). y .answer) o ∙ a, ap (λ (y : StepOutcome (List ℕ)). find n (y .table)) o ∙ found)

@@ -9,3 +9,4 @@ pub mod OthersLaws
 pub mod SoundLaws
 pub mod DemandLaws
 pub mod Theorems
+pub mod LookLaws

@@ -1,23 +1,29 @@
--- The public theorems of `table`: what the promises of add, remove and clear say of the customer's second demand. Assumes nothing.
-use Prim.Native.Nat.{ℕ}
+-- The public theorems of `table`: what the promises of add, remove and clear say of the customer's second demand, and where the slot is that a find answers. Assumes nothing.
+use Prim.Native.Nat.{ℕ, _*_}
 use mathlib.Core.Path.{_≡_, sym, ap, subst, _∙_}
 use mathlib.Core.Logic.{_↔_, inl, inr}
 use mathlib.Core.List.{List}
-use mathlib.Core.Option.{some}
+use mathlib.Core.Option.{none, some, Option·none-ne-some}
+use lib.ListN.{length, take, drop}
 use Rattle.base.specs.Bytes.{eqBytes}
 use Rattle.base.specs.Family.{KnownFamily}
-use Rattle.base.specs.Answer.{IsAccepted}
+use Rattle.base.specs.Answer.{value, IsAccepted}
+use Rattle.base.specs.Order.{Test}
 use Rattle.base.specs.declared.Answer.{Answer}
 use Rattle.base.specs.declared.Answer.the-variants.{Accepted, Refused}
+use Rattle.base.proofs.AnswerLaws.{accepted≢refused}
+use Rattle.base.proofs.Theorems.{one-fault, no-fault}
 use Rattle.name.specs.Name.{canonical}
 use Rattle.name.proofs.Theorems.{canonical-form}
-use Rattle.slots.specs.Entry.{familyOf, addressOf, names}
-use Rattle.slots.specs.Form.{TableEntry, tableBytes, Sound}
+use Rattle.slots.specs.Entry.{familyOf, addressOf, names, position}
+use Rattle.slots.specs.Form.{TableEntry, slotBytes, tableBytes, Sound}
+use Rattle.slots.specs.Sizes.{slotSize}
 use Rattle.slots.proofs.Theorems.{one-sound-table}
 use Rattle.table.specs.Steps.{find}
-use Rattle.table.specs.Calls.{KnownPolicy, nameTests, argumentTests, Adds, Removes, Clears}
+use Rattle.table.specs.Calls.{KnownPolicy, nameTests, argumentTests, Adds, Removes, Clears, Finds, Counts}
 use Rattle.table.specs.Demand2.{SoundAdd, SoundRemove, SoundClear, others, Ordered, MayInstall, Installs, Installed, Deleted, Cleared}
 use Rattle.table.proofs.CaseLaws.{add-case, remove-case, clear-case}
+use Rattle.table.proofs.LookLaws.{slot-found}
 use Rattle.table.proofs.DemandLaws.{
   one-call,
   was-stepped,
@@ -209,3 +215,43 @@ module _ (limit : ℕ) (b name : List ℕ) where
       unfolding Clears
       clears-if c stood =
           was-stepped limit (nameTests limit b name) b _ r left h args (s .table) (s .slots) .0 ∙ clear-accepted (s .table) (canonical name) c stood _ (clear-case (s .table) (canonical name))
+
+-- ---- find and count
+
+module _ (limit : ℕ) (b : List ℕ) where
+  module _ (name : List ℕ) where
+    abbrev tests : List Test
+    tests = nameTests limit b name
+
+    -- of one table: the name stands there or not
+    not-both : (s k : Sound limit b) (e : TableEntry) → find (canonical name) (s .table) ≡ none → find (canonical name) (k .table) ≡ some e → ⊥
+    not-both s k e f g = Option·none-ne-some e (sym f ∙ ap (find (canonical name)) (one-sound-table limit b s k) ∙ g)
+
+    pub one-find : (r q : Answer) → Finds limit b name r → Finds limit b name q → r ≡ q
+    one-find r q (Finds.faulty {n = n} f a) (Finds.faulty {n = m} g d) = a ∙ ap (λ (x : ℕ). Refused x 0) (one-fault tests n m f g) ∙ sym d
+    one-find r q (Finds.faulty {n = n} f a) (Finds.not-held k p g d) = absurd (no-fault tests n (k, (p, tt)) f)
+    one-find r q (Finds.faulty {n = n} f a) (Finds.found k p g d) = absurd (no-fault tests n (k, (p, tt)) f)
+    one-find r q (Finds.not-held s p f a) (Finds.faulty {n = m} g d) = absurd (no-fault tests m (s, (p, tt)) g)
+    one-find r q (Finds.not-held s p f a) (Finds.not-held k p′ g d) = a ∙ sym d
+    one-find r q (Finds.not-held s p f a) (Finds.found k p′ {e = e} g d) = absurd (not-both s k e f g)
+    one-find r q (Finds.found s p f a) (Finds.faulty {n = m} g d) = absurd (no-fault tests m (s, (p, tt)) g)
+    one-find r q (Finds.found s p {e = e} f a) (Finds.not-held k p′ g d) = absurd (not-both k s e g f)
+    one-find r q (Finds.found s p f a) (Finds.found k p′ g d) = a ∙ ap (λ (t : List TableEntry). Accepted (position (canonical name) t)) (one-sound-table limit b s k) ∙ sym d
+
+    -- the slot that begins at so many times the size of a slot has the name's entry
+    pub found-slot : (i : ℕ) → Finds limit b name (Accepted i) → (s : Sound limit b) (e : TableEntry) → find (canonical name) (s .table) ≡ some e
+        → take slotSize (drop (slotSize * i) b) ≡ slotBytes e
+    found-slot i h s e stood = go h
+      where
+        go : Finds limit b name (Accepted i) → take slotSize (drop (slotSize * i) b) ≡ slotBytes e
+        go (Finds.faulty f a) = absurd (accepted≢refused a)
+        go (Finds.not-held k p f a) = absurd (accepted≢refused a)
+        go (Finds.found k p f a) =
+            let at : i ≡ position (canonical name) (s .table) = ap value a ∙ ap (position (canonical name)) (one-sound-table limit b k s) in
+            ap (λ (j : ℕ). take slotSize (drop (slotSize * j) b)) at ∙ slot-found limit (canonical name) (s .table) b (s .slots) e stood
+
+  pub one-count : (r q : Answer) → Counts limit b r → Counts limit b q → r ≡ q
+  one-count r q (Counts.not-sound f a) (Counts.not-sound g d) = a ∙ sym d
+  one-count r q (Counts.not-sound f a) (Counts.counted k d) = absurd (f k)
+  one-count r q (Counts.counted s a) (Counts.not-sound g d) = absurd (g s)
+  one-count r q (Counts.counted s a) (Counts.counted k d) = a ∙ ap (λ (t : List TableEntry). Accepted (length t)) (one-sound-table limit b s k) ∙ sym d

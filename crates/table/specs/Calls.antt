@@ -1,22 +1,24 @@
--- The calls on the bytes of a table: what is tested before the step, in which order, and what is answered and left. Document 01, "The table": the orders of "Add",
--- "Remove" and "Clear". A refused call leaves the bytes as they were.
+-- The calls on the bytes of a table: what is tested before the step, in which order, and what is answered and left. Document 01, "The table"
+-- (docs/RULES.md, 7.3 to 7.5): the orders of "Add", "Remove" and "Clear". A refused call leaves the bytes as they were. Find and count, which write
+-- nothing, are not document 01's: docs/DECISIONS.md; docs/RULES.md, 7.6.
 use Prim.Native.Nat.{ℕ}
 use mathlib.Core.Bool.{true}
 use mathlib.Core.Path.{_≡_}
 use mathlib.Core.Logic.{_⊎_}
 use mathlib.Core.List.{List, [], _∷_, _++_}
+use mathlib.Core.Option.{none, some}
 use lib.ListN.{length}
 use Rattle.base.specs.Bytes.{eqBytes}
 use Rattle.base.specs.Dhcid.{wellFormed}
 use Rattle.base.specs.Family.{KnownFamily}
 use Rattle.base.specs.Order.{Test, AllHold, FirstFault}
-use Rattle.base.specs.Refusal.{noProperName, unknownSetting, notADhcid, addressLength, tableNotSound}
+use Rattle.base.specs.Refusal.{noProperName, unknownSetting, notADhcid, addressLength, nameNotHeld, tableNotSound}
 use Rattle.base.specs.declared.Answer.{Answer}
-use Rattle.base.specs.declared.Answer.the-variants.{Refused}
+use Rattle.base.specs.declared.Answer.the-variants.{Accepted, Refused}
 use Rattle.name.specs.Name.{Proper, canonical}
-use Rattle.slots.specs.Entry.{familyOf, addressSize}
+use Rattle.slots.specs.Entry.{familyOf, addressSize, position}
 use Rattle.slots.specs.Form.{TableEntry, tableBytes, Sound}
-use Rattle.table.specs.Steps.{StepOutcome, add, remove, clear}
+use Rattle.table.specs.Steps.{StepOutcome, find, add, remove, clear}
 
 -- ---- what is tested
 
@@ -75,3 +77,17 @@ Removes limit b name dhcid family address =
 
 unfoldable pub Clears : ℕ → List ℕ → List ℕ → Answer → List ℕ → Type 0
 Clears limit b name = Called limit (nameTests limit b name) b (λ t. clear t (canonical name))
+
+-- ---- the two that look
+
+-- Find: 40, 9; then 33, or how many entries stand before the name's
+pub data Finds (limit : ℕ) (b name : List ℕ) (r : Answer) : Type 0 where
+  faulty : {n : ℕ} → FirstFault (nameTests limit b name) n → r ≡ Refused n 0 → Finds limit b name r
+  not-held : (s : Sound limit b) → Proper name → find (canonical name) (s .table) ≡ none → r ≡ Refused nameNotHeld 0 → Finds limit b name r
+  found : (s : Sound limit b) → Proper name → {e : TableEntry} → find (canonical name) (s .table) ≡ some e → r ≡ Accepted (position (canonical name) (s .table))
+      → Finds limit b name r
+
+-- Count: 40, or how many entries there are
+pub data Counts (limit : ℕ) (b : List ℕ) (r : Answer) : Type 0 where
+  not-sound : (Sound limit b → ⊥) → r ≡ Refused tableNotSound 0 → Counts limit b r
+  counted : (s : Sound limit b) → r ≡ Accepted (length (s .table)) → Counts limit b r

@@ -48,7 +48,8 @@ pub data MayInstall (limit : ℕ) (t : List TableEntry) (n d : List ℕ) (policy
   same : (e : TableEntry) → find n t ≡ some e → e .holder ≡ some d → MayInstall limit t n d policy
   latest : (e : TableEntry) (c : List ℕ) → find n t ≡ some e → e .holder ≡ some c → (c ≡ d → ⊥) → policy ≡ 1 → MayInstall limit t n d policy
 
--- what is then answered, and what stands under the name: document 01, "Add". A takeover deletes the other family's address, a refresh keeps it
+-- what is then answered, and what stands under the name: document 01, "Add" (docs/RULES.md, 7.3). A takeover deletes the other family's address, a
+-- refresh keeps it
 pub data Installs (limit : ℕ) (t : List TableEntry) (n d : List ℕ) (f : Family) (x : List ℕ) (policy : ℕ) : Answer → TableEntry → Type 0 where
   unused : find n t ≡ none → length t < limit → Installs limit t n d f x policy (Accepted 0) (entered n d f x)
   same : (e : TableEntry) → find n t ≡ some e → e .holder ≡ some d → Installs limit t n d f x policy (Accepted 1) (refreshed f x e)

@@ -1,5 +1,6 @@
--- Add, remove and clear, as functions of the entries in order of arrival. Document 01, "The table": "Add", "Remove", "Clear". The arguments are sound here: the name is
--- canonical, and nothing else is tested. The number of names, the type of a holder and its equality are parameters.
+-- Add, remove and clear, as functions of the entries in order of arrival. Document 01, "The table": "Add", "Remove", "Clear" (docs/RULES.md, 7.3 to
+-- 7.5). The arguments are sound here: the name is canonical, and nothing else is tested. The number of names, the type of a holder and its equality
+-- are parameters.
 use Prim.Native.Nat.{ℕ}
 use mathlib.Core.Bool.{Bool, cond}
 use mathlib.Core.List.{List, [], _∷_, _++_}

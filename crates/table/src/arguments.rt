@@ -1,4 +1,4 @@
-// What is tested before a step, in document 01's order.
+// What is tested before a step, in document 01's order (docs/RULES.md, 7.3 to 7.5).
 use base::dhcid::is_well_formed;
 use base::refusal::ADDRESS_LENGTH;
 use base::refusal::NO_PROPER_NAME;

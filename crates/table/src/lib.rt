@@ -1,4 +1,4 @@
-// The table of names: add, remove and clear. A call decides first and writes last, so a refused one has written nothing.
+// The table of names: add, remove and clear, find and count. A call decides first and writes last, so a refused one has written nothing.
 mod arguments;
 pub mod slot_for;
 mod step;
@@ -9,6 +9,9 @@ use arguments::is_family;
 use arguments::is_policy;
 use arguments::name_fault;
 use base::Answer;
+use base::refusal::NAME_NOT_HELD;
+use base::refusal::TABLE_NOT_SOUND;
+use slot_row::is_sound;
 ghost use Rattle.slots.specs.Sizes.{mostNames};
 ghost use Rattle.table.specs.Calls as calls;
 
@@ -52,4 +55,29 @@ pub fn clear(table: &mut [u8], name: &[u8]) -> Answer
         return Answer::refused(fault);
     }
     step::clear(table, name)
+}
+
+// The index of the slot that has the name, from 0 on. Refusals: 40, 9, 33.
+pub fn find(table: &[u8], name: &[u8]) -> Answer
+    ensures { λ r. ⌜ calls.Finds mostNames (now (table .entry)) (now (name .entry)) r ⌝ }
+{
+    let fault = name_fault(table, name);
+    if fault != 0 {
+        return Answer::refused(fault);
+    }
+    let i = slot_row::find(table, name);
+    if i == slot_row::count(table) {
+        return Answer::refused(NAME_NOT_HELD);
+    }
+    Answer::Accepted(i as u32)
+}
+
+// How many names there are. Refusals: 40.
+pub fn count(table: &[u8]) -> Answer
+    ensures { λ r. ⌜ calls.Counts mostNames (now (table .entry)) r ⌝ }
+{
+    if !is_sound(table) {
+        return Answer::refused(TABLE_NOT_SOUND);
+    }
+    Answer::Accepted(slot_row::count(table) as u32)
 }

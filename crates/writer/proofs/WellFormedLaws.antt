@@ -7,8 +7,8 @@ use native.Mathlib.Omega.{arith}
 use Rattle.base.specs.Bytes.{bigEndian, inBytes}
 use Rattle.base.specs.Logic.{Every}
 use Rattle.base.proofs.Lists.{every-append}
-use Rattle.name.specs.Name.{Proper, SpellsName, canonical}
-use Rattle.name.proofs.Theorems.{canonical-form}
+use Rattle.name.specs.Name.{Proper, canonical}
+use Rattle.name.proofs.Theorems.{canonical-form, spelled-proper}
 use Rattle.grammar.specs.Listing.{RecordType, ResourceRecord, Owner, Rdata, RecordEntry, Records}
 use Rattle.grammar.proofs.SizeLaws.{rdata-size}
 use Rattle.writer.specs.Line.{RdataOf, WellFormedRecord}
@@ -26,9 +26,6 @@ small-numbers n [] = Every.none
 small-numbers n (x ∷ xs) = every-append (bigEndian n x) (inBytes n xs) (small-number n x) (small-numbers n xs)
 
 -- ---- owner and data
-
-spelled-proper : (w n : List ℕ) → SpellsName w n → Proper n
-spelled-proper w n s = record { labels = s .labels; name = s .name; form = s .form }
 
 pub owner-proper : (w n : List ℕ) → Owner w n → Proper n
 owner-proper w n o = subst Proper (sym (o .form)) (canonical-form (o .wire) (spelled-proper w (o .wire) (o .spells)) .proper)

@@ -1,5 +1,6 @@
 -- How a record is written: the line of a listing that the writer spells for it. Document 01, "The table", writing; "Names", text; "DHCID bytes and their
--- text", text written. What a listing's lines spell is another matter, which `grammar` says; proofs/Theorems.antt has that they spell what was written.
+-- text", text written (docs/RULES.md, 6.7, 3.3 and 5.3). What a listing's lines spell is another matter, which `grammar` says; proofs/Theorems.antt
+-- has that they spell what was written.
 use Prim.Native.Nat.{ℕ, _+_, _<_}
 use mathlib.Core.Bool.{true, cond}
 use mathlib.Core.Path.{_≡_}
