@@ -1,6 +1,6 @@
 -- The public theorems of `listing`: what its functions promise, said of the definitions of `grammar` alone. Assumes nothing.
 use Prim.Native.Nat.{ℕ, _≤_, _<_}
-use mathlib.Core.Path.{_≡_, sym}
+use mathlib.Core.Path.{_≡_, sym, subst, _∙_}
 use mathlib.Core.Logic.{_↔_}
 use mathlib.Core.List.{List, [], map}
 use native.Mathlib.Nat.{zero-add}
@@ -10,6 +10,7 @@ use Rattle.base.specs.declared.Answer.the-variants.{Accepted, Refused}
 use Rattle.base.specs.Refusal.{listingLong}
 use Rattle.grammar.specs.Listing.{ResourceRecord, Spells}
 use Rattle.grammar.specs.Faults
+use Rattle.grammar.specs.Outcome as outcome
 use Rattle.grammar.specs.Outcome.{Checked}
 use Rattle.listing.specs.Reading.{limit, Checks}
 use Rattle.listing.specs.Found.{told}
@@ -45,6 +46,14 @@ some-giving t at = some-given t at
 
 pub one-giving : (t : List ℕ) (at : ℕ) (rs qs : List ResourceRecord) (l m : Last) → Gives t at rs l → Gives t at qs m → (rs ≡ qs) × (l ≡ m)
 one-giving t at rs qs l m g h = one-given t at g h
+
+-- from the beginning of a text: what gives records to the end is accepted, and what gives a refusal is refused so
+pub gives-accepted : {t : List ℕ} {rs : List ResourceRecord} → Gives t 0 rs end → Checked limit t (outcome.accepted rs)
+gives-accepted (Gives.whole fits s) = Checked.whole fits s
+
+pub gives-refused : {t : List ℕ} {rs : List ResourceRecord} {n p : ℕ} → Gives t 0 rs (refusal n p) → Checked limit t (outcome.refused n p)
+gives-refused (Gives.too-long over) = Checked.too-long over
+gives-refused {t} (Gives.faulty {n = n} {p = p} fits f e) = subst (λ (o : ℕ). Checked limit t (outcome.refused n o)) (sym (e ∙ zero-add p)) (Checked.faulty fits f)
 
 -- it has found a refusal exactly if no record is left before that
 pub step-refused : (t : List ℕ) (at : ℕ) (s : Step) → Answers t at s → (n offset : ℕ) → (s .found ≡ found.Refused n offset) ↔ Gives t at [] (refusal n offset)

@@ -1,4 +1,3 @@
-pub mod InputLaws
 pub mod LineLaws
 pub mod NextLaws
 pub mod BatchLaws

@@ -1,5 +1,5 @@
--- What the functions of the program promise each other: the buffer gets the lines of the records of a right listing, whole and in order. Of the bytes that come
--- from C's read and go to its write no contract can speak.
+-- What the functions of the program promise each other: the buffer gets the lines of the records of a right listing, whole and in order. Of the bytes that go
+-- to C's write no contract can speak.
 use Prim.Native.Nat.{ℕ, _+_, _≤_, _<_}
 use mathlib.Core.Path.{_≡_}
 use mathlib.Core.List.{List, [], _∷_, _++_}
@@ -8,18 +8,11 @@ use Rattle.base.specs.Bytes.{overlay}
 use Rattle.grammar.specs.Listing.{ResourceRecord}
 use Rattle.writer.specs.Line.{line, lines}
 use Rattle.listing.specs.Giving.{end, Gives}
-use Rattle.listing_check.specs.declared.Input.{Input}
-use Rattle.listing_check.specs.declared.Input.the-variants.{Read, Failed}
 use Rattle.listing_check.specs.declared.Batch.{Batch}
 
 -- no line has more bytes (writer, proofs/Theorems.antt, longest-line)
 abbrev pub longestLine : ℕ
 longestLine = 310
-
--- no more bytes came than there is room for
-abbrev pub Came : List ℕ → Input → Type 0
-Came text (Read n) = n ≤ length text
-Came text Failed = Unit {0}
 
 -- the text t can be printed from the offset at on: it is within the limit, and spells records there, or none
 abbrev pub Printable : List ℕ → ℕ → Type 0

@@ -4,12 +4,15 @@
 use base::Answer;
 use base::refusal::LISTING_LONG;
 use entry::Record;
-use libc::STDERR_FILENO;
-use libc::STDIN_FILENO;
-use libc::STDOUT_FILENO;
 use listing::Found;
 use listing::check;
 use listing::step_at;
+use listing_io::INPUT_LIMIT;
+use listing_io::Input;
+use listing_io::complain;
+use listing_io::print;
+use listing_io::print_refusal;
+use listing_io::read_input;
 use writer::LONGEST_LINE;
 use writer::put_record;
 ghost use Prim.Native.Nat.{_+_, _≤_};
@@ -18,55 +21,8 @@ ghost use Rattle.grammar.specs.Listing.{ResourceRecord};
 ghost use Rattle.writer.specs.Line.{Writable, Holds};
 ghost use Rattle.listing_check.specs.Printing as spec;
 
-// One byte more than the longest listing that this program takes: so much of a longer one is read, and no more. It is the program's own number and
-// stays where it is if the library comes to take longer listings.
-const INPUT_LIMIT: usize = 65537;
-
 // How many bytes of output may wait before they are written out; no fewer than the longest line has.
 const OUTPUT_ROOM: usize = 4096;
-
-enum Input {
-    Read(usize),
-    Failed,
-}
-
-// Reads once from standard input into `room`: how many bytes came, none at the end of the input.
-fn read_some(room: &mut [u8]) -> Input
-    ensures { λ r. ⌜ spec.Came (now (room .exit)) r ⌝ }
-{
-    let got = libc::read(STDIN_FILENO, room);
-    if got < 0 {
-        return Input::Failed;
-    }
-    Input::Read(io::count(got, room))
-}
-
-// Reads standard input to its end, or until `text` is full: how many bytes came.
-fn read_input(text: &mut [u8]) -> Input
-    ensures { λ r. ⌜ spec.Came (now (text .exit)) r ⌝ }
-{
-    let mut len: usize = 0;
-    while len < text.len() {
-        match read_some(&mut text[len..]) {
-            Input::Failed => return Input::Failed,
-            Input::Read(n) => {
-                if n == 0 {
-                    return Input::Read(len);
-                }
-                len += n;
-            }
-        }
-    }
-    Input::Read(len)
-}
-
-fn print(bytes: &[u8]) -> bool {
-    io::write_all(STDOUT_FILENO, bytes)
-}
-
-fn complain(line: &[u8]) {
-    io::write_all(STDERR_FILENO, line);
-}
 
 // Puts the line of a record into `out`, behind the `used` bytes that wait there, and answers how many wait then.
 fn put_line(out: &mut [u8], used: usize, place: Record) -> usize
@@ -155,14 +111,6 @@ fn print_records(text: &[u8], out: &mut [u8]) -> bool
         at = batch.next;
     }
     true
-}
-
-fn print_refusal(number: u32, offset: u32) -> bool {
-    print(b"refused ")
-        && io::print_decimal(STDOUT_FILENO, number as u64)
-        && print(b" at ")
-        && io::print_decimal(STDOUT_FILENO, offset as u64)
-        && print(b"\n")
 }
 
 // Prints what is to be said of a listing. False where the output failed.

@@ -1,9 +1,8 @@
 -- What a load answers and leaves, by what was found of the listing, of its records and of the area. Assumes nothing.
 use Prim.Native.Nat.{ℕ, _+_, _≤_, _<_}
-use mathlib.Core.Path.{_≡_, refl, sym, ap, subst, _∙_}
+use mathlib.Core.Path.{_≡_, refl, sym, ap, _∙_}
 use mathlib.Core.Logic.{inl, inr}
 use mathlib.Core.List.{List, _++_}
-use native.Mathlib.Nat.{zero-add}
 use native.Mathlib.Omega.{arith}
 use lib.ListN.{length, drop}
 use Rattle.base.specs.Bytes.{overlay}
@@ -12,11 +11,10 @@ use Rattle.base.specs.declared.Answer.{Answer}
 use Rattle.base.specs.declared.Answer.the-variants
 use Rattle.base.proofs.OrderLaws.{fault-before, fault-after, hold-both}
 use Rattle.grammar.specs.Listing.{ResourceRecord}
-use Rattle.grammar.specs.Outcome.{accepted, refused, Checked}
 use Rattle.listing.specs.Reading.{limit}
-use Rattle.listing.specs.Giving.{Last, end, refusal, Gives, too-long, whole, faulty}
+use Rattle.listing.specs.Giving.{Last, end, refusal, Gives}
 use Rattle.base.proofs.AnswerLaws.{accepted≢refused}
-use Rattle.listing.proofs.Theorems.{some-giving}
+use Rattle.listing.proofs.Theorems.{some-giving, gives-accepted, gives-refused}
 use Rattle.slots.specs.Form.{tableBytes}
 use Rattle.slots.specs.Sizes.{mostNames, tableSize}
 use Rattle.slots.proofs.TableLaws.{length-table}
@@ -31,14 +29,6 @@ use Rattle.table_load.specs.Promise.{Loadable}
 -- ---- what was found of the listing and of its records
 
 module _ (t : List ℕ) where
-  -- a listing that gives records to the end is accepted, and one that gives a refusal is refused
-  gives-accepted : {rs : List ResourceRecord} → Gives t 0 rs end → Checked limit t (accepted rs)
-  gives-accepted (whole fits s) = Checked.whole fits s
-
-  gives-refused : {rs : List ResourceRecord} {n p : ℕ} → Gives t 0 rs (refusal n p) → Checked limit t (refused n p)
-  gives-refused (too-long over) = Checked.too-long over
-  gives-refused (faulty {n = n} {p = p} fits f e) = subst (λ (o : ℕ). Checked limit t (refused n o)) (sym (e ∙ zero-add p)) (Checked.faulty fits f)
-
   module _ (j : Judged) (judged : (rs : List ResourceRecord) (l : Last) → Gives t 0 rs l → Judges rs l j) where
     answer-is : {r : Answer} → j ≡ withoutSlots r → j .answer ≡ r
     unfolding withoutSlots

@@ -1,7 +1,7 @@
 use native.Mathlib.Omega.{arith}
 use lib.ListN.{length-take}
 use borrow.Author.Needs.{needs}
-use Rattle.listing_check.proofs.InputLaws.{read-within}
+use Rattle.listing_io.proofs.InputLaws.{read-within}
 use Rattle.listing_check.proofs.main.Statement.{statement}
 use Rattle.listing_check.proofs.main.Tie as tie
 

@@ -4,9 +4,9 @@ use mathlib.Core.Path.{_≡_, subst}
 use mathlib.Core.List.{List}
 use native.Mathlib.Omega.{arith}
 use lib.ListN.{length, take, drop, length-take, length-drop}
-use Rattle.listing_check.specs.Printing.{Came}
-use Rattle.listing_check.specs.declared.Input.{Input}
-use Rattle.listing_check.specs.declared.Input.the-variants.{Read}
+use Rattle.listing_io.specs.Coming.{Came}
+use Rattle.listing_io.specs.declared.Input.{Input}
+use Rattle.listing_io.specs.declared.Input.the-variants.{Read}
 
 pub read-within : (text : List ℕ) (i : Input) (n : ℕ) → Came text i → i ≡ Read n → n ≤ length text
 read-within text i n h e = subst (Came text) e h

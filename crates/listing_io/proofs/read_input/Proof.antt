@@ -3,9 +3,9 @@ use mathlib.Core.Path.{_≡_}
 use native.Mathlib.Omega.{arith}
 use lib.ListN.{length}
 use borrow.Author.Needs.{needs}
-use Rattle.listing_check.proofs.InputLaws.{read-so-far}
-use Rattle.listing_check.proofs.read_input.Statement.{statement}
-use Rattle.listing_check.proofs.read_input.Tie as tie
+use Rattle.listing_io.proofs.InputLaws.{read-so-far}
+use Rattle.listing_io.proofs.read_input.Statement.{statement}
+use Rattle.listing_io.proofs.read_input.Tie as tie
 
 abbrev Inv-loop : tie.InvT-loop
 Inv-loop text₀ len₀ text len = (len ≤ length text) × (length text ≡ length text₀)

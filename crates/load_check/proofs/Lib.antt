@@ -1,0 +1,9 @@
+pub mod VerdictLaws
+pub mod LikeLaws
+pub mod WalkLaws
+pub mod ReachedLaws
+pub mod NameLaws
+pub mod RepeatLaws
+pub mod HeadLaws
+pub mod OneLaws
+pub mod Theorems
