@@ -1,30 +1,45 @@
+/* SPDX-License-Identifier: LicenseRef-LICENSE */
 /*
  * Vichrelka: which DHCP client holds which name.
  *
- * The part of a site gateway that reads DHCP requests, computes DHCIDs (RFC 4701), reads and writes the listing of names, and
- * keeps the table of names. Every call is proved to meet a written promise for every input, the refused ones included; the comment
- * at each call says that promise in short, docs/PROMISES.md in full.
+ * This is the part of a site gateway that reads DHCP requests, computes DHCIDs (RFC 4701), reads and writes the
+ * listing of names, and keeps the table of names. Every call is proved to meet a written promise for every input,
+ * the refused ones included. The comment at each call has that promise in short, docs/PROMISES.md has it in full.
  *
- * Every call answers one uint64_t: keep it in one. The low half is the number of a refusal, 0 where the call was accepted; the high
- * half is the call's value where it was accepted, and an offset into what was refused where it was not. Take it apart with the three
- * functions below. A refused call has changed nothing.
+ * Every call answers one uint64_t: keep it in one. The low half is the number of a refusal, 0 if the call was
+ * accepted. The high half is the call's value if it was accepted, and an offset into what was refused if it was
+ * not. Take it apart with vichrelka_refusal, vichrelka_value and vichrelka_place. A refused call has changed
+ * nothing.
  *
  *     uint64_t answer = vichrelka_listing_check(text, text_len);
- *     if (vichrelka_refusal(answer) == 0)
+ *     uint32_t refusal = vichrelka_refusal(answer);
+ *     if (refusal == 0)
  *         printf("%u records\n", (unsigned)vichrelka_value(answer));
  *     else
- *         printf("refused %u at %u\n", (unsigned)vichrelka_refusal(answer), (unsigned)vichrelka_place(answer));
+ *         printf("refused %u at %u: %s\n", (unsigned)refusal,
+ *                (unsigned)vichrelka_place(answer), vichrelka_refusal_text(refusal));
  *
- * The halves stand so because C drops the high one in silence: an answer that is kept in an int by mistake still tells a refusal by
- * its number, and a value that is taken so is 0 at the first try, and not a wrong one in the field. An answer that nobody keeps is
- * warned of, by the compilers that can.
+ * The number is in the low half because C drops the high half in silence. An answer that is kept in an int by
+ * mistake still has the number of its refusal; a value that is taken so is 0 at the first try, and not a wrong one
+ * in the field. Compilers that can do so warn where an answer is dropped.
  *
- * What the caller owes, of every pointer with its length: so many bytes can be read there until the call returns, and nobody else
- * writes them meanwhile; the length is below 2^63; the pointer is null only if the length is 0. What a call writes (its pointer is
- * not to const) can be written too, and overlaps nothing else that is lent to the call.
+ * What the caller owes, for every pointer with its length: so many bytes can be read there until the call returns,
+ * and nobody else writes them meanwhile; the length is below 2^63; the pointer is null only if the length is 0.
+ * What a call writes (its pointer is not to const) can be written too, and overlaps nothing else that is lent to
+ * the call.
+ *
+ * What a call needs: memcpy and memset from the host, and less than 5 KB of stack (docs/TRUST.md has the figures).
+ * Nothing else: there is no heap, no global data, no input and no output. Calls on different memory may run in any
+ * thread at the same time, and so may calls that only read the same memory.
+ *
+ * The library is machine code for x86-64 with the System V ABI and 64-bit pointers, as Linux has it.
  */
 #ifndef VICHRELKA_H
 #define VICHRELKA_H
+
+#if !defined(__x86_64__) || defined(__ILP32__) || defined(_WIN32) || defined(__CYGWIN__) || defined(__APPLE__)
+#error "libvichrelka.a is machine code for x86-64 with the System V ABI and 64-bit pointers; this is another machine"
+#endif
 
 #include <stddef.h>
 #include <stdint.h>
@@ -33,11 +48,11 @@
 extern "C" {
 #endif
 
-/* The version. From 0.2.0 on the second number goes up with whatever adds a call, or changes what a call takes, answers or leaves, a
-   byte form or a size; the third with any other change. */
-#define VICHRELKA_VERSION "0.2.0"
+/* The version. From 0.2.0 on the second number goes up with whatever adds a call, or changes what a call takes,
+   answers or leaves, a byte form or a size. The third goes up with any other change. */
+#define VICHRELKA_VERSION "0.3.0"
 #define VICHRELKA_VERSION_MAJOR 0
-#define VICHRELKA_VERSION_MINOR 2
+#define VICHRELKA_VERSION_MINOR 3
 #define VICHRELKA_VERSION_PATCH 0
 
 /* At every call: warn where its answer is dropped. Empty for a compiler that has no word for that. */
@@ -55,6 +70,9 @@ extern "C" {
 /* The most bytes that a name has in wire form, its last zero byte included. */
 #define VICHRELKA_NAME_LIMIT 255
 
+/* The most bytes that a name has in text, its last dot included. */
+#define VICHRELKA_NAME_TEXT_LIMIT 254
+
 /* The bytes of a DHCID: two of identifier type, one of digest type, 32 of SHA-256. */
 #define VICHRELKA_DHCID_LEN 35
 
@@ -66,18 +84,18 @@ extern "C" {
 #define VICHRELKA_SLOT_LEN 312
 #define VICHRELKA_TABLE_LEN (VICHRELKA_TABLE_NAMES * VICHRELKA_SLOT_LEN)
 
-/* Where the fields of a slot begin; its first byte is the name's length. See below, "The table of names". */
+/* Where the fields of a slot begin; its first byte is the name's length. See "The table of names". */
 #define VICHRELKA_SLOT_NAME 1
 #define VICHRELKA_SLOT_FLAGS 256
 #define VICHRELKA_SLOT_A 257
 #define VICHRELKA_SLOT_AAAA 261
 #define VICHRELKA_SLOT_DHCID 277
 
-/* The most bytes that a table is as a listing: 883 for each name, so that this much output is always enough. */
+/* The most bytes that a table is as a listing: 883 for each name. So much output is always enough. */
 #define VICHRELKA_WRITTEN_LIMIT (VICHRELKA_TABLE_NAMES * 883)
 
-/* The numbers of the refusals. A level of a DHCPv6 message is a relay's message, or the client's, which stands inside them all. An
-   entry of a listing is a line, or several lines that parentheses hold together. */
+/* The numbers of the refusals. A level of a DHCPv6 message is a relay's message, or the client's message, which is
+   inside them all. An entry of a listing is a line, or several lines that parentheses hold together. */
 enum vichrelka_refused {
     /* the message has fewer than 240 bytes (DHCPv4) or 4 (DHCPv6), or more than VICHRELKA_MESSAGE_LIMIT */
     VICHRELKA_REFUSED_MESSAGE_LENGTH = 1,
@@ -85,59 +103,75 @@ enum vichrelka_refused {
     VICHRELKA_REFUSED_NOT_BOOTREQUEST = 2,
     /* DHCPv4: hlen is over 16 */
     VICHRELKA_REFUSED_HARDWARE_ADDRESS_LENGTH = 3,
-    /* an option runs past the end, or DHCPv4 options have no End; a DHCPv6 level is empty, shorter than its header or not just
-       filled by its options, or a relay has no Relay Message option (9) */
+    /* an option runs past the end, or DHCPv4 options have no End; a DHCPv6 level is empty, is shorter than its
+       header, or is not just filled by its options; or a relay has no Relay Message option (9) */
     VICHRELKA_REFUSED_OPTIONS_MALFORMED = 4,
-    /* an option that matters is there twice: DHCPv4 52, 53, 61, 81; DHCPv6 9 in a relay, 1 or 39 in the client's message */
+    /* an option that matters is there twice: DHCPv4 52, 53, 61, 81; DHCPv6 9 in a relay, 1 or 39 in the client's
+       message */
     VICHRELKA_REFUSED_OPTION_REPEATED = 5,
     /* DHCPv4: Option Overload (52) is there */
     VICHRELKA_REFUSED_OPTION_OVERLOAD = 6,
-    /* DHCPv4: option 53 is absent, or not just the byte 3, DHCPREQUEST; DHCPv6: a level is no Request, Renew, Rebind or
-       Relay-forward */
+    /* DHCPv4: option 53 is absent, or not just the byte 3, DHCPREQUEST; DHCPv6: a level is not a Request, Renew,
+       Rebind or Relay-forward */
     VICHRELKA_REFUSED_NOT_A_REQUEST = 7,
-    /* DHCPv4: option 61 has fewer than 2 bytes, or is absent and hlen is 0; DHCPv6: option 1 is absent, or not of 3 to 130 bytes */
+    /* DHCPv4: option 61 has fewer than 2 bytes, or is absent and hlen is 0; DHCPv6: option 1 is absent, or does not
+       have 3 to 130 bytes */
     VICHRELKA_REFUSED_NO_IDENTIFIER = 8,
-    /* no name can be used: the site's is no proper one, and the client's is not either or is not asked for; in add, remove and
-       clear: the name that was given is not proper */
+    /* no name can be used: the site's is not proper, and the client's is not proper either or is not asked for; in
+       add, remove, clear, find and the two calls on names in text: the name that was given is not proper */
     VICHRELKA_REFUSED_NO_PROPER_NAME = 9,
-    /* DHCPv6: a ninth relay stands around the client's message */
+    /* DHCPv6: there is a ninth relay; no more than eight may be around the client's message */
     VICHRELKA_REFUSED_TOO_MANY_RELAYS = 11,
-    /* the family is not 4 or 6, or the setting or the policy not 0 or 1 */
+    /* the family is not 4 or 6, or the setting or the policy is not 0 or 1 */
     VICHRELKA_REFUSED_UNKNOWN_SETTING = 12,
     /* there is less room for the output, or for the table in a load, than what is to be written */
     VICHRELKA_REFUSED_OUTPUT_SHORT = 13,
-    /* identifier and name have more than 4,096 bytes together: the rules have this number, and no message leads to it */
+    /* identifier and name have more than 4,096 bytes together: a number of the rules that no message leads to */
     VICHRELKA_REFUSED_HASH_INPUT_LONG = 14,
-    /* a DHCID is not VICHRELKA_DHCID_LEN bytes, its identifier type is not 0, 1 or 2, or its digest type is not 1 */
+    /* a DHCID does not have VICHRELKA_DHCID_LEN bytes, identifier type 0, 1 or 2, and digest type 1 */
     VICHRELKA_REFUSED_NOT_A_DHCID = 15,
-    /* an address has not 4 bytes (family 4) or 16 (family 6) */
+    /* an address does not have 4 bytes (family 4) or 16 (family 6) */
     VICHRELKA_REFUSED_ADDRESS_LENGTH = 16,
     /* the listing has more than VICHRELKA_LISTING_LIMIT bytes */
     VICHRELKA_REFUSED_LISTING_LONG = 17,
-    /* an entry has a byte other than tab, line end and 32 to 126 (in a comment too), a `(` inside parentheses, a `)` outside them,
-       or a `(` that is never closed */
+    /* an entry has a byte other than tab, line end and 32 to 126 (in a comment too), a `(` inside parentheses, a
+       `)` outside them, or a `(` that is never closed */
     VICHRELKA_REFUSED_ENTRY_SHAPE = 20,
-    /* an entry does not begin with its owner (a blank or a `(` stands first), or its owner is no proper name: labels of 1 to 63
-       letters, digits, hyphens and underscores, each with a dot after it, 254 characters at most */
+    /* an entry does not begin with its owner (a blank or a `(` is first), or its owner is not a proper name: labels
+       of 1 to 63 letters, digits, hyphens and underscores, each with a dot after it, 254 characters at most */
     VICHRELKA_REFUSED_ENTRY_OWNER = 21,
-    /* after the owner and at most one IN, an entry does not have A, AAAA or DHCID (in either case, IN too) */
+    /* after the owner and at most one IN, an entry does not have A, AAAA or DHCID (upper or lower case, IN too) */
     VICHRELKA_REFUSED_ENTRY_TYPE = 22,
-    /* an entry's data are not those of its type, or words stand after them */
+    /* an entry's data are not those of its type, or words follow them */
     VICHRELKA_REFUSED_ENTRY_DATA = 24,
     /* the name is held by a client with another DHCID */
     VICHRELKA_REFUSED_HELD_BY_ANOTHER = 30,
     /* the name has no DHCID: it is kept by hand, and no client gets it */
     VICHRELKA_REFUSED_KEPT_BY_HAND = 31,
-    /* the name is not in the table, and VICHRELKA_TABLE_NAMES others are; a listing that is loaded has more names than that */
+    /* the name is new and the table has VICHRELKA_TABLE_NAMES names; or a listing to load has more names than that */
     VICHRELKA_REFUSED_TABLE_FULL = 32,
     /* the name is not in the table */
     VICHRELKA_REFUSED_NAME_NOT_HELD = 33,
     /* the name has no address of that family, or another one */
     VICHRELKA_REFUSED_ADDRESS_DIFFERS = 34,
-    /* a listing that is loaded has two records of one type for one name, be they the same or not */
+    /* a listing that is loaded has two records of one type for one name, whether they are the same or not */
     VICHRELKA_REFUSED_RECORD_REPEATED = 35,
-    /* the table is not VICHRELKA_TABLE_LEN bytes, or they are not those of a table (all zeros are): see below, "The table of names" */
+    /* the table is not VICHRELKA_TABLE_LEN bytes, or they are not those of a table (all zeros are): see "The table
+       of names" */
     VICHRELKA_REFUSED_TABLE_NOT_SOUND = 40
+};
+
+/* The family of a DHCP message, and that of an address. */
+enum vichrelka_family {
+    VICHRELKA_IPV4 = 4,
+    VICHRELKA_IPV6 = 6
+};
+
+/* Whose name a request gets: the site's for every client; or the client's if it is proper and asked for, and else
+   the site's. */
+enum vichrelka_setting {
+    VICHRELKA_SITE_ONLY = 0,
+    VICHRELKA_CLIENT_FIRST = 1
 };
 
 /* Who gets a name that another client holds. */
@@ -146,7 +180,7 @@ enum vichrelka_policy {
     VICHRELKA_LATEST_WINS = 1
 };
 
-/* Where a chosen name stands: in the message, or in the site's name. */
+/* Where a chosen name is: in the message, or in the site's name. */
 enum vichrelka_source {
     VICHRELKA_SOURCE_MESSAGE = 0,
     VICHRELKA_SOURCE_SITE = 1
@@ -164,15 +198,54 @@ static inline uint32_t vichrelka_value(uint64_t answer)
     return vichrelka_refusal(answer) == 0 ? (uint32_t)(answer >> 32) : 0;
 }
 
-/* The offset of what was refused: the first byte of a listing's first faulty entry. 0 for every other refusal, and if the call was
-   accepted. */
+/* The offset of what was refused: the first byte of a listing's first faulty entry. It is 0 for every other
+   refusal, and if the call was accepted. */
 static inline uint32_t vichrelka_place(uint64_t answer)
 {
     return vichrelka_refusal(answer) == 0 ? 0 : (uint32_t)(answer >> 32);
 }
 
-/* The value of vichrelka_name taken apart: the source, an enum vichrelka_source (bits 30 and 31); the offset there at which the name
-   starts (bits 8 to 29); the bytes of the name, its last zero byte included (bits 0 to 7). All are 0 if the call was refused. */
+/* The refusal in a line, for a log: docs/REFUSALS.md has what to do. "accepted" for 0, and "unknown refusal" for a
+   number that no call gives. */
+static inline const char *vichrelka_refusal_text(uint32_t number)
+{
+    /* tools/refusal_texts made this of docs/REFUSALS.md */
+    switch (number) {
+    case 0: return "accepted";
+    case VICHRELKA_REFUSED_MESSAGE_LENGTH: return "the message is too short or too long";
+    case VICHRELKA_REFUSED_NOT_BOOTREQUEST: return "the message is not a BOOTREQUEST with DHCP's magic cookie";
+    case VICHRELKA_REFUSED_HARDWARE_ADDRESS_LENGTH: return "the hardware address is longer than its field";
+    case VICHRELKA_REFUSED_OPTIONS_MALFORMED: return "the message's options are malformed";
+    case VICHRELKA_REFUSED_OPTION_REPEATED: return "an option that matters is there twice";
+    case VICHRELKA_REFUSED_OPTION_OVERLOAD: return "the message has Option Overload (52)";
+    case VICHRELKA_REFUSED_NOT_A_REQUEST: return "the message is not a request";
+    case VICHRELKA_REFUSED_NO_IDENTIFIER: return "the message has no client identifier that can be used";
+    case VICHRELKA_REFUSED_NO_PROPER_NAME: return "there is no proper name";
+    case VICHRELKA_REFUSED_TOO_MANY_RELAYS: return "the message has more than eight relays";
+    case VICHRELKA_REFUSED_UNKNOWN_SETTING: return "the family, the setting or the policy is unknown";
+    case VICHRELKA_REFUSED_OUTPUT_SHORT: return "there is too little room for what is to be written";
+    case VICHRELKA_REFUSED_HASH_INPUT_LONG: return "identifier and name are too long together";
+    case VICHRELKA_REFUSED_NOT_A_DHCID: return "the bytes are not a DHCID";
+    case VICHRELKA_REFUSED_ADDRESS_LENGTH: return "the address does not have its family's length";
+    case VICHRELKA_REFUSED_LISTING_LONG: return "the listing is too long";
+    case VICHRELKA_REFUSED_ENTRY_SHAPE: return "a byte of the entry is not allowed, or its parentheses do not match";
+    case VICHRELKA_REFUSED_ENTRY_OWNER: return "the entry does not begin with a proper owner";
+    case VICHRELKA_REFUSED_ENTRY_TYPE: return "the entry's class or type is missing or unknown";
+    case VICHRELKA_REFUSED_ENTRY_DATA: return "the entry's data are not those of its type, or words follow them";
+    case VICHRELKA_REFUSED_HELD_BY_ANOTHER: return "another client holds the name";
+    case VICHRELKA_REFUSED_KEPT_BY_HAND: return "the name is kept by hand";
+    case VICHRELKA_REFUSED_TABLE_FULL: return "the table has no room for another name";
+    case VICHRELKA_REFUSED_NAME_NOT_HELD: return "the name is not in the table";
+    case VICHRELKA_REFUSED_ADDRESS_DIFFERS: return "the name does not have this address";
+    case VICHRELKA_REFUSED_RECORD_REPEATED: return "the listing has two records of one type for a name";
+    case VICHRELKA_REFUSED_TABLE_NOT_SOUND: return "the bytes are not a sound table";
+    default: return "unknown refusal";
+    }
+}
+
+/* The value of vichrelka_name taken apart: the source, an enum vichrelka_source (bits 30 and 31); the offset there
+   at which the name starts (bits 8 to 29); the bytes of the name, its last zero byte included (bits 0 to 7). All
+   are 0 if the call was refused. */
 static inline uint32_t vichrelka_name_source(uint64_t answer)
 {
     return vichrelka_value(answer) >> 30;
@@ -189,20 +262,22 @@ static inline uint32_t vichrelka_name_len(uint64_t answer)
 }
 
 /*
- * Choose the name of a DHCP request. Its value says where that name stands, uncopied, with its letters in whatever case:
+ * Choose the name of a DHCP request. Its value says where that name is, uncopied, with its letters in either case:
  *
  *     const uint8_t *name = vichrelka_name_source(answer) == VICHRELKA_SOURCE_SITE ? site : message;
  *     name += vichrelka_name_start(answer);
  *
- * Family 4 is a DHCPv4 message, family 6 a DHCPv6 one, which may stand inside up to eight relays' messages. Setting 1 prefers a
- * proper name of the client to the site's; setting 0 takes the site's for every client. The client's name is that of DHCPv4
- * option 81 if flag E is set there, or that of DHCPv6 option 39. A proper name is in wire form: one or more labels of 1 to 63
- * letters, digits, hyphens and underscores, each after a byte with its length, and a zero byte, which is the last; it has no more
- * than 255 bytes.
+ * Family 4 (VICHRELKA_IPV4) is a DHCPv4 message. Family 6 (VICHRELKA_IPV6) is a DHCPv6 message, which may be inside
+ * up to eight relays' messages. Setting 1 (VICHRELKA_CLIENT_FIRST) prefers a proper name of the client to the
+ * site's; setting 0 (VICHRELKA_SITE_ONLY) takes the site's for every client. The client's name is that of DHCPv4
+ * option 81 if flag E is set there, or that of DHCPv6 option 39. A proper name is in wire form: one or more labels
+ * of 1 to 63 letters, digits, hyphens and underscores, each after a byte with its length, and a zero byte, which is
+ * the last; it has no more than 255 bytes.
  *
- * Refusals, in order, with place 0: 12; the message's; 9. The message's are 1, 2, 3, 4, 5, 6, 7 and 8 for DHCPv4. For DHCPv6 they
- * are 1; then, level by level from the outermost on, 4 for one that is empty, 7, 11, 4 for its header and its options, and in a
- * relay 4 for no option 9 and 5 for two; then, in the client's message, 5 and 8. Nothing is written, whatever the answer.
+ * Refusals, in order, with place 0: 12; the message's; 9. The message's are 1, 2, 3, 4, 5, 6, 7 and 8 for DHCPv4.
+ * For DHCPv6 they are 1; then, level by level from the outermost on, 4 if it is empty, 7, 11, 4 for its header and
+ * its options, and in a relay 4 for no option 9 and 5 for two; then, in the client's message, 5 and 8. Nothing is
+ * written, whatever the answer.
  */
 VICHRELKA_NODISCARD
 uint64_t vichrelka_name(uint32_t family, uint32_t setting,
@@ -210,19 +285,19 @@ uint64_t vichrelka_name(uint32_t family, uint32_t setting,
                         const uint8_t *site, size_t site_len);
 
 /*
- * Compute the DHCID of a DHCP request (RFC 4701), for the name that vichrelka_name chooses. Its value is VICHRELKA_DHCID_LEN: so
- * many bytes are written, the first ones of out, and those behind them stay as they are.
+ * Compute the DHCID of a DHCP request (RFC 4701), for the name that vichrelka_name chooses. Its value is
+ * VICHRELKA_DHCID_LEN: so many bytes are written, the first ones of out, and those behind them stay as they are.
  *
- * A DHCID is the type of the client's identifier in two bytes, the byte 1, and the SHA-256 of the identifier followed by the name
- * in lower case. The identifier is
+ * A DHCID is the type of the client's identifier in two bytes, the byte 1, and the SHA-256 of the identifier
+ * followed by the name in lower case. The identifier is
  *
- *     type 2   the DUID: the data of DHCPv6 option 1, or those of DHCPv4 option 61 behind the first five bytes, if the first is 255
- *              and there are 8 to 135 of them (RFC 4361)
+ *     type 2   the DUID: the data of DHCPv6 option 1, or those of DHCPv4 option 61 behind the first five bytes, if the
+ *              first is 255 and there are 8 to 135 of them (RFC 4361)
  *     type 1   the data of any other DHCPv4 option 61
  *     type 0   htype and the first hlen bytes of chaddr, of a DHCPv4 message without option 61
  *
- * Refusals, in order, with place 0: those of vichrelka_name; 14, which no message leads to; 13 for fewer than VICHRELKA_DHCID_LEN
- * bytes of out. Where it is refused nothing is written.
+ * Refusals, in order, with place 0: those of vichrelka_name; 14, which no message leads to; 13 for fewer than
+ * VICHRELKA_DHCID_LEN bytes of out. If it is refused, nothing is written.
  */
 VICHRELKA_NODISCARD
 uint64_t vichrelka_dhcid(uint32_t family, uint32_t setting,
@@ -231,53 +306,86 @@ uint64_t vichrelka_dhcid(uint32_t family, uint32_t setting,
                          uint8_t *out, size_t out_len);
 
 /*
- * Check a listing. Its value is the number of its records, which is 0 for a listing without any, the empty one included.
+ * Read a name in text into canonical wire form: lower case, as names are compared and stored. Its value is the
+ * number of bytes written, one more than the text has: they are the first ones of out, and those behind them stay
+ * as they are. VICHRELKA_NAME_LIMIT bytes of out are always enough.
  *
- * An entry without words is no record: empty, blank, a comment from `;` to the line's end. Any other is a record
+ * The text is an owner as a listing spells it: labels of 1 to 63 letters, digits, hyphens and underscores, in
+ * either case, each with a dot after it, the last one too; 254 bytes at most. Nothing is trimmed, and no zero byte
+ * ends it: `a` is refused, and so are no bytes and a dot alone.
  *
- *     owner [IN] A      192.0.2.7                           four decimal numbers without leading zeros
- *     owner [IN] AAAA   2001:db8:0:0:0:0:0:7                eight groups of 1 to 4 hexadecimal digits; no `::`
- *     owner [IN] DHCID  AAABxLmlskllE0MVjd57zHcWm...        base64, 48 characters in any number of words
- *     owner [IN] DHCID  \# 35 000001C4B9A5B249...           RFC 3597, 70 hexadecimal digits in words of an even number of them
+ * Refusals, in order, with place 0: 9; 13 for fewer bytes of out than the name has. If it is refused, nothing is
+ * written.
+ */
+VICHRELKA_NODISCARD
+uint64_t vichrelka_name_from_text(const uint8_t *text, size_t text_len, uint8_t *out, size_t out_len);
+
+/*
+ * Write a name in text, in lower case, as a listing is written: the other way of vichrelka_name_from_text. The name
+ * is a proper one in wire form, in either case. Its value is the number of bytes written, one fewer than the name
+ * has: they are the first ones of out, with the last dot, and those behind them stay as they are. No zero byte is
+ * written behind them. VICHRELKA_NAME_TEXT_LIMIT bytes of out are always enough.
  *
- * and begins with the first byte of its owner. A DHCID has identifier type 0, 1 or 2 and digest type 1. Words are set apart by
- * blanks, tabs, comments and parentheses; inside parentheses, which do not nest, by line ends too.
+ * Refusals, in order, with place 0: 9; 13 for fewer bytes of out than the text has. If it is refused, nothing is
+ * written.
+ */
+VICHRELKA_NODISCARD
+uint64_t vichrelka_name_to_text(const uint8_t *name, size_t name_len, uint8_t *out, size_t out_len);
+
+/*
+ * Check a listing. Its value is the number of its records, which is 0 for a listing without any, the empty one
+ * included.
  *
- * Refusals, in order: 17, with place 0, whatever the text says. Then the entries are judged from the first on, and the check stops
- * at one with a fault: its place is the offset where that entry begins, its number the lowest that fits, of 20, 21, 22 and 24.
- * Nothing is written, whatever the answer.
+ * An entry without words is not a record: empty, blank, a comment from `;` to the line's end. Any other is a record
+ *
+ *     owner [IN] A      192.0.2.7                       four decimal numbers without leading zeros
+ *     owner [IN] AAAA   2001:db8:0:0:0:0:0:7            eight groups of 1 to 4 hexadecimal digits; no `::`
+ *     owner [IN] DHCID  AAABxLmlskllE0MVjd57zHcWm...    base64, 48 characters in any number of words
+ *     owner [IN] DHCID  \# 35 000001C4B9A5B249...       RFC 3597, 70 hexadecimal digits, in words of an even number
+ *
+ * and begins with the first byte of its owner. A DHCID has identifier type 0, 1 or 2 and digest type 1. Blanks,
+ * tabs, comments and parentheses separate words; inside parentheses, which do not nest, line ends do so too.
+ *
+ * Refusals, in order: 17, with place 0, whatever the text says. Then the entries are judged from the first on, and
+ * the check stops at one with a fault: its place is the offset at which that entry begins, its number the lowest
+ * that fits, of 20, 21, 22 and 24. Nothing is written, whatever the answer.
  */
 VICHRELKA_NODISCARD
 uint64_t vichrelka_listing_check(const uint8_t *text, size_t text_len);
 
 /*
- * The table of names: up to VICHRELKA_TABLE_NAMES names in the order in which they came. A name has an A, an AAAA or a DHCID, or more
- * than one of these, but none of them twice. It is VICHRELKA_TABLE_LEN bytes of yours; all zeros is the empty table, and they may be
- * stored, copied and compared as they are. Every call but the load tests that they are sound, and each leaves them so:
+ * The table of names: up to VICHRELKA_TABLE_NAMES names in the order in which they came. A name has an A, an AAAA
+ * or a DHCID, or more than one of these, but none of them twice. The table is VICHRELKA_TABLE_LEN bytes of yours.
+ * All zeros is the empty table. The bytes may be stored, copied and compared as they are. Every call but the load
+ * tests that they are sound, and each leaves them so:
  *
  *     a slot       the name's wire length (1 byte), the name (255), flags (1), A (4), AAAA (16), DHCID (35)
  *     flags        1 A, 2 AAAA, 4 DHCID; at least one of them
- *     the name     a proper one in wire form, in lower case; no name stands twice
+ *     the name     a proper one in wire form, in lower case; no name is there twice
  *     the DHCID    VICHRELKA_DHCID_LEN bytes, identifier type 0, 1 or 2, digest type 1
  *     zeros        whatever is not used: bytes behind the name, absent fields, slots behind the last name
  *
- * All zeros are sound: a store that was lost and comes back as zeros is an empty table to every call, and 40 does not tell the one
- * from the other. A host that has to know keeps a mark of its own beside the table.
+ * All zeros are sound: a store that was lost and comes back as zeros is an empty table to every call, and 40 does
+ * not tell the one from the other. A host that has to know keeps a mark of its own beside the table.
  *
- * A name without a DHCID is kept by hand, and no client gets it. Names are given in wire form, in either case, and are stored in lower case.
+ * A name without a DHCID is kept by hand, and no client gets it. Names are given in wire form, in either case, and
+ * are stored in lower case.
  *
- * Add, remove and clear have place 0 in every refusal, and then have changed nothing. They write to the table alone.
+ * Add, remove and clear have place 0 in every refusal, and then have changed nothing. They write to the table
+ * alone.
  */
 
 /*
- * Give the name to the client with this DHCID, with this address of the family 4 (4 bytes) or 6 (16 bytes). Its value is
+ * Give the name to the client with this DHCID, with this address of the family 4 (4 bytes) or 6 (16 bytes). Its
+ * value is
  *
- *     0   the name was not in the table: it now stands last, with this DHCID and this address
+ *     0   the name was not in the table: it is now the last, with this DHCID and this address
  *     1   the client holds the name: its address of this family is now this one, that of the other family stays
- *     2   another client held the name, and the policy is VICHRELKA_LATEST_WINS: DHCID and address of this family are now these, the
- *         other family's is deleted; the name keeps its place in the order
+ *     2   another client held the name, and the policy is VICHRELKA_LATEST_WINS: DHCID and address of this family are
+ *         now these, the other family's is deleted; the name keeps its place in the order
  *
- * Refusals, in order: 12 (family, policy), 40, 9, 15, 16; then 31, 30 under VICHRELKA_FIRST_WINS, or 32.
+ * Refusals, in order: 12 (family, policy), 40, 9, 15, 16; then 32, 31, or 30 under VICHRELKA_FIRST_WINS, of which
+ * only one can hold.
  */
 VICHRELKA_NODISCARD
 uint64_t vichrelka_table_add(uint8_t *table, size_t table_len,
@@ -286,8 +394,10 @@ uint64_t vichrelka_table_add(uint8_t *table, size_t table_len,
                              const uint8_t *address, size_t address_len, uint32_t policy);
 
 /*
- * Delete this address of the name, which the client with this DHCID holds. Its value is 0. The DHCID stays, and so does the name.
- * A message that releases a lease is no request, and vichrelka_dhcid refuses it with 7: keep name and DHCID with the lease.
+ * Delete this address of the name, which the client with this DHCID holds. Its value is 0. The DHCID stays, and so
+ * does the name. A message that releases a lease is not a request, and vichrelka_dhcid refuses it with 7: keep name
+ * and DHCID with the lease. Copy a name, a DHCID or an address out of the table before you give it to this call:
+ * the table is written, and overlaps nothing else that is lent.
  *
  * Refusals, in order: 12 (family), 40, 9, 15, 16, 33, 31, 30, 34.
  */
@@ -298,7 +408,9 @@ uint64_t vichrelka_table_remove(uint8_t *table, size_t table_len,
                                 const uint8_t *address, size_t address_len);
 
 /*
- * Take the name out of the table, whoever holds it and however it is kept. Its value is 0. Later names move up by a slot.
+ * Take the name out of the table, whoever holds it and however it is kept. Its value is 0. Later names move up by a
+ * slot. Copy a name out of its slot before you give it to this call: the table is written, and overlaps nothing
+ * else that is lent.
  *
  * Refusals, in order: 40, 9, 33.
  */
@@ -306,29 +418,53 @@ VICHRELKA_NODISCARD
 uint64_t vichrelka_table_clear(uint8_t *table, size_t table_len, const uint8_t *name, size_t name_len);
 
 /*
- * Write the table as a listing, at the beginning of out. Its value is the number of bytes written, 0 for the empty table; the bytes of
- * out behind them stay as they are. VICHRELKA_WRITTEN_LIMIT bytes of out are always enough.
+ * Find a name in the table. Its value is the index of its slot, from 0 on: the slot is the VICHRELKA_SLOT_LEN bytes
+ * from index * VICHRELKA_SLOT_LEN on. The value is 0 for the first slot, and for a refusal too: ask
+ * vichrelka_refusal first.
  *
- * The names stand in their order, each with its A, its AAAA and its DHCID, as far as it has them, a record on a line:
+ * Refusals, in order, with place 0: 40, 9, 33. Nothing is written, whatever the answer.
+ */
+VICHRELKA_NODISCARD
+uint64_t vichrelka_table_find(const uint8_t *table, size_t table_len, const uint8_t *name, size_t name_len);
+
+/*
+ * Count the names of the table. Its value is their number, 0 for the empty table. The names are in the slots before
+ * that index.
+ *
+ * Refusals, with place 0: 40. Nothing is written, whatever the answer.
+ */
+VICHRELKA_NODISCARD
+uint64_t vichrelka_table_count(const uint8_t *table, size_t table_len);
+
+/*
+ * Write the table as a listing, at the beginning of out. Its value is the number of bytes written, 0 for the empty
+ * table; the bytes of out behind them stay as they are. VICHRELKA_WRITTEN_LIMIT bytes of out are always enough.
+ *
+ * The names come in their order, each with its A, its AAAA and its DHCID, as far as it has them, a record on a
+ * line:
  *
  *     client.example.com. A 192.0.2.40
  *     client.example.com. AAAA 2001:0db8:0000:0000:0000:0000:0000:0028
  *     client.example.com. DHCID AAABxLmlskllE0MVjd57zHcWmEH3pCQ6VytcKD//7es/deY=
  *
- * What is written is a listing of just these records, and vichrelka_table_load makes the same table of it, byte for byte.
+ * What is written is a listing of just these records, and vichrelka_table_load makes the same table of it, byte for
+ * byte.
  *
- * Refusals, in order, with place 0: 40; 13 for fewer bytes of out than the listing has. Where it is refused nothing is written.
+ * Refusals, in order, with place 0: 40; 13 for fewer bytes of out than the listing has. If it is refused, nothing
+ * is written.
  */
 VICHRELKA_NODISCARD
 uint64_t vichrelka_table_write(const uint8_t *table, size_t table_len, uint8_t *out, size_t out_len);
 
 /*
- * Load a listing: replace the first VICHRELKA_TABLE_LEN bytes of table, whatever they were, by the table of its records, the names in the
- * order of their first records. Its value is 0. The bytes that stood there are not looked at, and need not be a table's. Lend just
- * VICHRELKA_TABLE_LEN bytes: of a longer area those behind stay as they are, and the other calls answer 40 to such an area.
+ * Load a listing: replace the first VICHRELKA_TABLE_LEN bytes of table, whatever they were, by the table of its
+ * records, the names in the order of their first records. Its value is 0. The former bytes are not looked at, and
+ * need not be a table's. Lend just VICHRELKA_TABLE_LEN bytes: of a longer area those behind stay as they are, and
+ * the other calls answer 40 to such an area.
  *
- * Refusals, in order: those of vichrelka_listing_check, with their places; then, with place 0, 35, 32 for more than VICHRELKA_TABLE_NAMES
- * names, and 13 for fewer than VICHRELKA_TABLE_LEN bytes of table. Where it is refused the table is as it was.
+ * Refusals, in order: those of vichrelka_listing_check, with their places; then, with place 0, 35, 32 for more than
+ * VICHRELKA_TABLE_NAMES names, and 13 for fewer than VICHRELKA_TABLE_LEN bytes of table. If it is refused, the
+ * table is as it was.
  */
 VICHRELKA_NODISCARD
 uint64_t vichrelka_table_load(uint8_t *table, size_t table_len, const uint8_t *text, size_t text_len);

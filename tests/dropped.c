@@ -6,10 +6,14 @@
 
 #define ARGUMENTS_vichrelka_name (4, 1, lent, 1, lent, 1)
 #define ARGUMENTS_vichrelka_dhcid (4, 1, lent, 1, lent, 1, lent, 1)
+#define ARGUMENTS_vichrelka_name_from_text (lent, 1, lent, 1)
+#define ARGUMENTS_vichrelka_name_to_text (lent, 1, lent, 1)
 #define ARGUMENTS_vichrelka_listing_check (lent, 1)
 #define ARGUMENTS_vichrelka_table_add (lent, 1, lent, 1, lent, 1, 4, lent, 1, VICHRELKA_FIRST_WINS)
 #define ARGUMENTS_vichrelka_table_remove (lent, 1, lent, 1, lent, 1, 4, lent, 1)
 #define ARGUMENTS_vichrelka_table_clear (lent, 1, lent, 1)
+#define ARGUMENTS_vichrelka_table_find (lent, 1, lent, 1)
+#define ARGUMENTS_vichrelka_table_count (lent, 1)
 #define ARGUMENTS_vichrelka_table_write (lent, 1, lent, 1)
 #define ARGUMENTS_vichrelka_table_load (lent, 1, lent, 1)
 #define ARGUMENTS_OF(call) ARGUMENTS_##call

@@ -67,10 +67,57 @@ static int wrong_numbers(void)
     wrong |= VICHRELKA_SLOT_DHCID + VICHRELKA_DHCID_LEN != VICHRELKA_SLOT_LEN;
     wrong |= VICHRELKA_REFUSED_RECORD_REPEATED != 35 || VICHRELKA_WRITTEN_LIMIT != 56512;
     wrong |= VICHRELKA_REFUSED_HASH_INPUT_LONG != 14 || VICHRELKA_SOURCE_MESSAGE != 0 || VICHRELKA_SOURCE_SITE != 1;
+    wrong |= VICHRELKA_IPV4 != 4 || VICHRELKA_IPV6 != 6 || VICHRELKA_SITE_ONLY != 0 || VICHRELKA_CLIENT_FIRST != 1;
+    wrong |= VICHRELKA_NAME_TEXT_LIMIT != 254;
 
     wrong |= vichrelka_name_source(chosen) != 1 || vichrelka_name_start(chosen) != 300 || vichrelka_name_len(chosen) != 18;
     wrong |= vichrelka_name_source(accepted) != 3 || vichrelka_name_start(accepted) != 0x3fffff || vichrelka_name_len(accepted) != 255;
     wrong |= vichrelka_name_source(refused) != 0 || vichrelka_name_start(refused) != 0 || vichrelka_name_len(refused) != 0;
+    return wrong;
+}
+
+/* Whether a refusal has these words */
+static int says(uint32_t number, const char *words)
+{
+    return strcmp(vichrelka_refusal_text(number), words) == 0;
+}
+
+/* Every number has a text, and no two refusals have the same. 10, 18, 19, 23 and 25 are no refusals of a call for C. */
+static int wrong_texts(void)
+{
+    uint32_t number, other;
+    int wrong = 0, known = 0;
+
+    for (number = 0; number < 100; number++) {
+        known += !says(number, "unknown refusal");
+        for (other = 0; other < number; other++)
+            wrong |= !says(number, "unknown refusal") && says(number, vichrelka_refusal_text(other));
+    }
+    wrong |= known != 28 || !says(0, "accepted") || !says(VICHRELKA_REFUSED_HELD_BY_ANOTHER, "another client holds the name");
+    wrong |= !says(10, "unknown refusal") || !says(18, "unknown refusal") || !says(19, "unknown refusal") || !says(23, "unknown refusal");
+    wrong |= !says(25, "unknown refusal") || !says(0xffffffffu, "unknown refusal");
+    return wrong;
+}
+
+/* Document 01's name of five bytes, and a name without a label, which is not proper. A text without its last dot is not one. */
+static int wrong_names(void)
+{
+    static const uint8_t chi[] = {3, 'C', 'h', 'i', 0};
+    static const char upper[] = "CHI.";
+    uint8_t wire[6] = {0}, text[5] = {0};
+    int wrong = 0;
+
+    wire[5] = text[4] = 0x5a;
+    wrong |= vichrelka_name_from_text((const uint8_t *)upper, 4, wire, sizeof wire) != (uint64_t)5 << 32;
+    wrong |= memcmp(wire, "\3chi", 5) != 0 || wire[5] != 0x5a;
+    wrong |= vichrelka_name_from_text((const uint8_t *)upper, 4, wire, 4) != VICHRELKA_REFUSED_OUTPUT_SHORT;
+    wrong |= vichrelka_name_from_text((const uint8_t *)upper, 3, wire, sizeof wire) != VICHRELKA_REFUSED_NO_PROPER_NAME;
+    wrong |= vichrelka_name_from_text((const uint8_t *)".", 1, wire, sizeof wire) != VICHRELKA_REFUSED_NO_PROPER_NAME;
+    wrong |= vichrelka_name_from_text(NULL, 0, NULL, 0) != VICHRELKA_REFUSED_NO_PROPER_NAME;
+    wrong |= vichrelka_name_to_text(chi, sizeof chi, text, sizeof text) != (uint64_t)4 << 32;
+    wrong |= memcmp(text, "chi.", 4) != 0 || text[4] != 0x5a;
+    wrong |= vichrelka_name_to_text(chi, sizeof chi, text, 3) != VICHRELKA_REFUSED_OUTPUT_SHORT;
+    wrong |= vichrelka_name_to_text(chi + 4, 1, text, sizeof text) != VICHRELKA_REFUSED_NO_PROPER_NAME;
     return wrong;
 }
 
@@ -123,6 +170,24 @@ static int wrong_listings(void)
     return wrong;
 }
 
+/* The two names of the listing, and one that is not there */
+static int wrong_finds(void)
+{
+    static uint8_t table[VICHRELKA_TABLE_LEN];
+    static const uint8_t second[] = {6, 'C', 'L', 'I', 'E', 'N', 'T', 7, 'e', 'x', 'a', 'm', 'p', 'l', 'e', 3, 'c', 'o', 'm', 0};
+    static const uint8_t absent[] = {1, 'a', 0};
+    int wrong = vichrelka_table_count(table, sizeof table) != 0 || load(table, sizeof table, LISTING) != 0;
+
+    wrong |= vichrelka_table_count(table, sizeof table) != (uint64_t)2 << 32;
+    wrong |= vichrelka_table_count(NULL, 0) != VICHRELKA_REFUSED_TABLE_NOT_SOUND;
+    wrong |= vichrelka_table_find(table, sizeof table, second, sizeof second) != (uint64_t)1 << 32;
+    wrong |= vichrelka_table_find(table, sizeof table, table + VICHRELKA_SLOT_NAME, table[0]) != 0;
+    wrong |= vichrelka_table_find(table, sizeof table, absent, sizeof absent) != VICHRELKA_REFUSED_NAME_NOT_HELD;
+    wrong |= vichrelka_table_find(table, sizeof table, absent, 2) != VICHRELKA_REFUSED_NO_PROPER_NAME;
+    wrong |= vichrelka_table_find(table, sizeof table - 1, absent, 2) != VICHRELKA_REFUSED_TABLE_NOT_SOUND;
+    return wrong;
+}
+
 static int wrong_tables_as_listings(void)
 {
     static uint8_t table[VICHRELKA_TABLE_LEN], out[VICHRELKA_WRITTEN_LIMIT];
@@ -163,5 +228,6 @@ static int wrong_slips(void)
 
 int main(void)
 {
-    return wrong_numbers() | wrong_requests() | wrong_listings() | wrong_tables() | wrong_tables_as_listings() | wrong_slips();
+    return wrong_numbers() | wrong_texts() | wrong_names() | wrong_requests() | wrong_listings() | wrong_tables() | wrong_finds()
+           | wrong_tables_as_listings() | wrong_slips();
 }
