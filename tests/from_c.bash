@@ -34,25 +34,32 @@ sanitizers() {
   fi
 }
 
-# build SOURCE..: the harness, with the library and with each shim before it; the sources go with every shim. The shims have no sanitizer, as the
-# library has none: what catches them is the harness.
-build() {
-  local shim object source part job sanitize
-  local shared=() harness=() running=()
+# build_harness NAME: the harness of tests/NAME_harness.c with the library; its objects are left in $harness, its flags in $sanitize
+build_harness() {
+  local part
+  harness=()
   sanitizers
-  for part in lend harness "${what}_harness"; do
+  for part in lend harness "${1}_harness"; do
     # shellcheck disable=SC2086
     cc -std=c99 -O1 -g $warn $sanitize -Iinclude -c -o "$out/$part.o" "tests/$part.c" || stop "$part.c does not compile"
     harness+=("$out/$part.o")
   done
   # shellcheck disable=SC2086
   cc $sanitize -o "$out/harness" "${harness[@]}" "$archive" || stop "the harness does not link"
+  planted=()
+}
+
+# build SOURCE..: the harness, with the library and with each shim before it; the sources go with every shim. The shims have no sanitizer, as the
+# library has none: what catches them is the harness.
+build() {
+  local shim object source job sanitize
+  local shared=() harness=() running=()
+  build_harness "$what"
   for source in "$@"; do
     object=$out/$(basename "$source" .c).o
     cc -std=c99 -O1 -c -o "$object" "$source" || stop "$source does not compile"
     shared+=("$object")
   done
-  planted=()
   for shim in tests/planted/"$what"/*.c; do
     planted+=("$out/planted/$(basename "$shim" .c)")
     build_shim "$shim" "$sanitize" "${harness[@]}" ${shared[@]+"${shared[@]}"} &
@@ -83,7 +90,7 @@ build_shim() {
 # compare CASES: the library with the model, and the shims, by tests/WHAT_test.py; so many generated cases unless CASES is set
 compare() {
   local status=0 last
-  ASAN_OPTIONS=symbolize=0 python3 "tests/${what}_test.py" --harness "$out/harness" --planted "${planted[@]}" \
+  ASAN_OPTIONS=symbolize=0 python3 "tests/${what}_test.py" --harness "$out/harness" --planted ${planted[@]+"${planted[@]}"} \
     --seed "${SEED:-1}" --cases "${CASES:-$1}" --jobs "${JOBS:-2}" >"$out/log" 2>&1 || status=$?
   sed '$d' "$out/log"
   last=$(tail -n 1 "$out/log")

@@ -1,4 +1,4 @@
-"""What the listing check has to answer: a second implementation of document 01's rules for a listing.
+"""What the listing check has to answer: a second implementation of document 01's rules for a listing (docs/RULES.md, 6).
 
 It was written from the paper and not from the library, and goes another way: comments are blanked out in the whole text, regular
 expressions then cut it into entries and words, and each datum is compared with its own encoding or with a table of all spellings.

@@ -1,4 +1,5 @@
-"""What load and write have to answer: a second implementation of document 01's rules for a table as a listing.
+"""What load and write have to answer: a second implementation of document 01's rules for a table as a listing
+(docs/RULES.md, 7.7 and 7.8).
 
 It stands on the models of the listing and of the table. The records of a listing go into a dictionary of names, of which each has a dictionary of its
 records; a name's place in the order comes with its first record by itself. Addresses are written by Python's module for them.

@@ -1,4 +1,5 @@
-"""What the calls on DHCP requests have to answer: a second implementation of document 01's rules for messages, names and DHCIDs.
+"""What the calls on DHCP requests have to answer: a second implementation of document 01's rules for messages, names and DHCIDs
+(docs/RULES.md, 3 to 5).
 
 It was written from the paper and the RFCs and not from the library, and goes another way: the options are read from a stream into a
 list, and the list is then judged as a whole; a relay's message is read by reading the message inside it; a name is taken apart into

@@ -1,4 +1,4 @@
--- How the data of an A and of an AAAA record are spelled. Document 01, "The listing's grammar".
+-- How the data of an A and of an AAAA record are spelled. Document 01, "The listing's grammar" (docs/RULES.md, 6.1 and 6.3).
 use Prim.Native.Nat.{ℕ, _/_, _%_, _≤_, _<_}
 use Prim.Native.Char.{code}
 use mathlib.Core.Path.{_≡_}

@@ -1,5 +1,5 @@
 -- What an answer says, in document 01's terms: a refusal's number, "count 0" where refused, and the place of a fault; and how an
--- answer is told to C. Document 01, "Refusal numbers".
+-- answer is told to C. Document 01, "Refusal numbers" (docs/RULES.md, 2.1).
 use Prim.Native.Nat.{ℕ, _+_, _*_, _/_, _%_, _^_, _<_}
 use mathlib.Core.Path.{_≡_}
 use Rattle.base.specs.declared.Answer.{Answer}
@@ -15,12 +15,12 @@ abbrev pub value : Answer → ℕ
 value (Accepted v) = v
 value (Refused n o) = 0
 
--- document 01's place: the offset in the listing of the first faulty entry; 0 where it was accepted, and where no entry is at fault
+-- document 01's place (docs/RULES.md, 1.3): the offset in the listing of the first faulty entry; 0 where it was accepted, and where no entry is at fault
 abbrev pub offset : Answer → ℕ
 offset (Accepted v) = 0
 offset (Refused n o) = o
 
--- document 01: accepted means that the call gives no refusal
+-- document 01 (docs/RULES.md, 2.1): accepted means that the call gives no refusal
 unfoldable pub IsAccepted : Answer → Type 0
 IsAccepted a = (count : ℕ) × (a ≡ Accepted count)
 

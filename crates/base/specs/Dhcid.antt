@@ -1,5 +1,5 @@
 -- Refusal 15's test of a DHCID's data. RFC 4701, 3.1: two bytes of identifier type, high byte first, one byte of digest type, the digest.
--- Document 01 wants just 35 bytes, an identifier type that 3.3 defines (0, 1 or 2), and digest type 1, which 3.4 gives to SHA-256.
+-- Document 01 (docs/RULES.md, 5.2) wants just 35 bytes, an identifier type that 3.3 defines (0, 1 or 2), and digest type 1, which 3.4 gives to SHA-256.
 use Prim.Native.Nat.{ℕ, _+_, _*_}
 use mathlib.Core.Bool.{Bool, _&&_}
 use mathlib.Core.List.{List}

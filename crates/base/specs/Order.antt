@@ -1,4 +1,5 @@
--- The order of a call's refusals. Document 01 gives it as a row of numbers, one for each thing that is tested; the first test that fails decides.
+-- The order of a call's refusals. Document 01 (docs/RULES.md, 2.3) gives it as a row of numbers, one for each thing that is tested; the first test
+-- that fails decides.
 use Prim.Native.Nat.{ℕ}
 use mathlib.Core.Path.{_≡_}
 use mathlib.Core.Logic.{_⊎_}

@@ -1,4 +1,4 @@
--- The refusal numbers of document 01, "Refusal numbers", in its order, one name each: the list of src/refusal.rt, for contracts.
+-- The refusal numbers of document 01, "Refusal numbers" (docs/RULES.md, 2.2), in its order, one name each: the list of src/refusal.rt, for contracts.
 -- docs/REFUSALS.md says when each is given. 10, 18, 19 and 23 are no refusal's.
 use Prim.Native.Nat.{ℕ}
 

@@ -10,7 +10,7 @@ ghost use Rattle.base.specs.Answer as spec;
 ghost use Rattle.base.specs.declared.Answer.the-variants.{Refused};
 
 // What a call answers: accepted, with a value that the call gives a meaning; or refused, with a number of `refusal`
-// and, where a listing was read, the offset of the faulty entry (document 01 calls it the place), else 0.
+// and, where a listing was read, the offset of the faulty entry (document 01 calls it the place: docs/RULES.md, 1.3), else 0.
 pub enum Answer {
     Accepted(u32),
     Refused { number: u32, offset: u32 },

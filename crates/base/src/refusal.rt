@@ -1,4 +1,4 @@
-// The refusal numbers of document 01, one name each. `specs/Refusal.antt` is the same list for contracts;
+// The refusal numbers of document 01 (docs/RULES.md, 2.2), one name each. `specs/Refusal.antt` is the same list for contracts;
 // `docs/REFUSALS.md` says what each means. 10, 18, 19 and 23 are not used.
 pub const MESSAGE_LENGTH: u32 = 1;
 

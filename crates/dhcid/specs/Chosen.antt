@@ -1,4 +1,4 @@
--- Which name a request gets. Document 01, "Names", last paragraph; "Refusal numbers", 9 and 12.
+-- Which name a request gets. Document 01, "Names", last paragraph; "Refusal numbers", 9 and 12 (docs/RULES.md, 3.4 and 2.2).
 use Prim.Native.Nat.{ℕ, _+_, _*_, _/_, _%_, _^_}
 use mathlib.Core.Bool.{Bool, true, false, cond}
 use mathlib.Core.Path.{_≡_}

@@ -1,4 +1,5 @@
--- The DHCID of a request. RFC 4701, 3.1 (the data's form), 3.3 (identifier types), 3.4 (digest type 1, SHA-256) and 3.5 (what is hashed); document 01, "DHCID bytes and their text".
+-- The DHCID of a request. RFC 4701, 3.1 (the data's form), 3.3 (identifier types), 3.4 (digest type 1, SHA-256) and 3.5 (what is hashed); document
+-- 01, "DHCID bytes and their text" (docs/RULES.md, 5.1).
 use Prim.Native.Nat.{ℕ, _+_, _≤_, _<_}
 use mathlib.Core.Path.{_≡_}
 use mathlib.Core.List.{List, _∷_, _++_}

@@ -1,4 +1,4 @@
--- A name that is handed on as a part of a slice, uncopied. Document 01, "Names" and "Language forms and where they go".
+-- A name that is handed on as a part of a slice, uncopied. Document 01, "Names" and "Language forms and where they go" (docs/RULES.md, 3.4 and 10).
 -- A slice is told by the place in memory where it begins, a block and an offset, and by its bytes.
 use Prim.Native.Nat.{ℕ, _+_}
 use mathlib.Core.Bool.{Bool, true, false}

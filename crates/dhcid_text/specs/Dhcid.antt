@@ -1,4 +1,4 @@
--- How the data of a DHCID record are spelled. Document 01, "DHCID bytes and their text"; RFC 4648, 4; RFC 3597, 5.
+-- How the data of a DHCID record are spelled. Document 01, "DHCID bytes and their text" (docs/RULES.md, 5.3); RFC 4648, 4; RFC 3597, 5.
 use Prim.Native.Nat.{ℕ, _+_, _-_, _*_, _/_, _%_, _<_}
 use Prim.Native.Char.{code}
 use mathlib.Core.Bool.{true, cond}

@@ -1,5 +1,5 @@
--- Document 01, "Both sides of each edge": the rows that it marks, in its order, as one table under one statement. Each answer is written from there; the bytes of the DHCID are RFC 4701's,
--- 3.6.1, in hexadecimal.
+-- Document 01, "Both sides of each edge" (docs/RULES.md, 9): the rows that it marks, in its order, as one table under one statement. Each answer is
+-- written from there; the bytes of the DHCID are RFC 4701's, 3.6.1, in hexadecimal.
 use Prim.Native.Nat.{ℕ}
 use Prim.Native.String.{String}
 use mathlib.Core.Path.{_≡_}

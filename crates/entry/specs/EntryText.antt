@@ -1,4 +1,5 @@
--- Where an entry stands in a text. Document 01, "The listing's grammar", paragraph 1: a 10 outside parentheses ends an entry, and the end of the text the last one.
+-- Where an entry stands in a text. Document 01, "The listing's grammar", paragraph 1 (docs/RULES.md, 6.2): a 10 outside parentheses ends an entry,
+-- and the end of the text the last one.
 use Prim.Native.Nat.{ℕ, _≤_}
 use mathlib.Core.Path.{_≡_}
 use mathlib.Core.List.{List, _∷_, _++_}

@@ -1,5 +1,6 @@
--- Which bytes a record has where it is held: in a row of records, where document 01 calls it a place, and in what reading an entry gives. Document 01, "The listing's grammar", on the row: owners are canonical, and
--- what is not used of a place is zeros; "Language forms": arrays for name and data.
+-- Which bytes a record has where it is held: in a row of records, where document 01 calls it a place, and in what reading an entry gives. Document
+-- 01, "The listing's grammar", on the row (docs/RULES.md, 6.5): owners are canonical, and what is not used of a place is zeros; "Language forms":
+-- arrays for name and data.
 use Prim.Native.Nat.{ℕ}
 use mathlib.Core.List.{[]}
 use lib.ListN.{length}

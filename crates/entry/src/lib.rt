@@ -28,7 +28,7 @@ pub const TYPE_DHCID: u8 = 49;
 
 pub(crate) const NO_TYPE: u8 = 0;
 
-// A record, by value: 292 bytes. In a row of records it is what document 01 calls a place.
+// A record, by value: 292 bytes. In a row of records it is what document 01 calls a place (docs/RULES.md, 6.5).
 pub struct Record {
     // the owner in canonical wire form, and zeros after it
     pub owner: [u8; 255],

@@ -1,5 +1,5 @@
--- Texts and what reading them answers, as rows of one table. Each answer is written from document 01, the DHCID's bytes from RFC 4701's example in
--- hexadecimal. proofs/Examples.antt proves that all rows hold of the definitions.
+-- Texts and what reading them answers, as rows of one table. Each answer is written from document 01 (docs/RULES.md, 6), the DHCID's bytes from RFC
+-- 4701's example in hexadecimal. proofs/Examples.antt proves that all rows hold of the definitions.
 use Prim.Native.Nat.{ℕ}
 use Prim.Native.String.{String}
 use mathlib.Core.List.{List, [], _∷_}
@@ -40,13 +40,13 @@ clientDhcid = record {
 
 unfoldable pub rows : List Row
 rows =
-    -- document 01, "Both sides of each edge": the empty listing, and the four others of a listing
+    -- document 01, "Both sides of each edge" (docs/RULES.md, 9): the empty listing, and the four others of a listing
     record { text = ""; limit = 65536; places = 3; outcome = accepted [] }
     ∷ record { text = "("; limit = 65536; places = 3; outcome = refused 20 0 }
     ∷ record { text = " a. A 1.2.3.4"; limit = 65536; places = 3; outcome = refused 21 0 }
     ∷ record { text = "a. A 01.2.3.4"; limit = 65536; places = 3; outcome = refused 24 0 }
     ∷ record { text = "a. (\nA ) 1.2.3.4"; limit = 65536; places = 3; outcome = accepted (anA ∷ []) }
-    -- document 01, "The table", the example of 140 bytes
+    -- document 01, "The table" (docs/RULES.md, 7.8), the example of 140 bytes
     ∷ record { text = "tank-a.example.com. A 192.0.2.7\nclient.example.com. A 192.0.2.40\nclient.example.com. DHCID AAABxLmlskllE0MVjd57zHcWmEH3pCQ6VytcKD//7es/deY=\n"; limit = 65536; places = 3; outcome = accepted (of tank (192 ∷ 0 ∷ 2 ∷ 7 ∷ []) ∷ of client (192 ∷ 0 ∷ 2 ∷ 40 ∷ []) ∷ clientDhcid ∷ []) }
     -- a DHCID over two lines in parentheses, with the second line lost, and as 48 words of one character
     ∷ record { text = "client.example.com. IN DHCID ( AAABxLmlskllE0MVjd57zHcW ; first half\n  mEH3pCQ6VytcKD//7es/deY= ) ; second half\n"; limit = 65536; places = 3; outcome = accepted (clientDhcid ∷ []) }

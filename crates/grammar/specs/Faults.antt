@@ -1,6 +1,6 @@
--- What a refusal of a listing is: which number, and at which offset. Document 01, "The listing's grammar", paragraph 4. The faults of shape stand here by
--- name, the others by negation of what specs/Listing.antt asks, each where what goes before it holds. That a text is refused exactly if it spells no
--- list, with one number at one offset, is a theorem (proofs/Theorems.antt, spelled-or-refused and after it).
+-- What a refusal of a listing is: which number, and at which offset. Document 01, "The listing's grammar", paragraph 4 (docs/RULES.md, 6.4). The
+-- faults of shape stand here by name, the others by negation of what specs/Listing.antt asks, each where what goes before it holds. That a text is
+-- refused exactly if it spells no list, with one number at one offset, is a theorem (proofs/Theorems.antt, spelled-or-refused and after it).
 use Prim.Native.Nat.{ℕ}
 use mathlib.Core.Bool.{true, false}
 use mathlib.Core.Path.{_≡_}
@@ -40,7 +40,7 @@ ended [] = []
 ended (e ∷ es) = e ++ 10 ∷ ended es
 
 -- the text t is refused with the number n at the offset: entries that spell the records rs stand first, and what stands from there on begins with a faulty
--- entry. So that is the first one, and the offset, document 01's place, is that of its first byte
+-- entry. So that is the first one, and the offset, document 01's place (docs/RULES.md, 1.3), is that of its first byte
 pub record Refused (t : List ℕ) (rs : List ResourceRecord) (n offset : ℕ) : Type 0 where
   pub before : List (List ℕ)
   pub from : List ℕ

@@ -1,6 +1,7 @@
 -- What a listing spells: a relation between a text and a list of records, built up from bytes, words, entries and data. Document 01, "The listing's
--- grammar", its first three paragraphs, in their order; each definition names the paragraph that it states. Nothing here says how a listing is read, or
--- what is wrong with a text that spells nothing. That no text spells two lists is a theorem (proofs/Theorems.antt, one-list).
+-- grammar" (docs/RULES.md, 6.1 to 6.3), its first three paragraphs, in their order; each definition names the paragraph that it states. Nothing here
+-- says how a listing is read, or what is wrong with a text that spells nothing. That no text spells two lists is a theorem (proofs/Theorems.antt,
+-- one-list).
 use Prim.Native.Nat.{ℕ, _≤_}
 use mathlib.Core.Bool.{Bool, true, false, cond, _&&_, _||_}
 use mathlib.Core.Path.{_≡_}

@@ -1,5 +1,5 @@
--- What a call that reads a listing answers. Document 01, "The listing's grammar", paragraphs 4 and 5: 17 comes before every other refusal and 25 after, and
--- the place of both is 0. The limit, 65,536 bytes there, is a parameter.
+-- What a call that reads a listing answers. Document 01, "The listing's grammar", paragraphs 4 and 5 (docs/RULES.md, 6.4 and 6.5): 17 comes before
+-- every other refusal and 25 after, and the place of both is 0. The limit, 65,536 bytes there, is a parameter.
 use Prim.Native.Nat.{ℕ, _≤_, _<_}
 use mathlib.Core.List.{List}
 use lib.ListN.{length}
@@ -7,7 +7,7 @@ use Rattle.base.specs.Refusal.{listingLong, rowShort}
 use Rattle.grammar.specs.Listing.{ResourceRecord, Spells}
 use Rattle.grammar.specs.Faults.{Refused}
 
--- the records; or a refusal's number and its offset, document 01's place
+-- the records; or a refusal's number and its offset, document 01's place (docs/RULES.md, 1.3)
 pub data Outcome : Type 0 where
   accepted : List ResourceRecord → Outcome
   refused : ℕ → ℕ → Outcome

@@ -1,6 +1,7 @@
--- What document 01 says of a listing that spells a list as a whole ("The listing's grammar", paragraph 3): its bytes are allowed ones, its parentheses outside
--- comments stand in pairs, each ( before its ), that do not nest, and its data are 4, 16 or 35 bytes. It is told of the text alone, with no word of pieces or
--- entries, and specs/Listing.antt does not use it: that a listing which spells a list has it so is a theorem (proofs/Theorems.antt, allowed-bytes and after it).
+-- What document 01 says of a listing that spells a list as a whole ("The listing's grammar", paragraph 3; docs/RULES.md, 6.2): its bytes are allowed
+-- ones, its parentheses outside comments stand in pairs, each ( before its ), that do not nest, and its data are 4, 16 or 35 bytes. It is told of the
+-- text alone, with no word of pieces or entries, and specs/Listing.antt does not use it: that a listing which spells a list has it so is a theorem
+-- (proofs/Theorems.antt, allowed-bytes and after it).
 use Prim.Native.Nat.{ℕ, zero, suc, _≤_}
 use mathlib.Core.Bool.{Bool, false, true, cond, not, _||_}
 use mathlib.Core.Path.{_≡_}

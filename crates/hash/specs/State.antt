@@ -1,5 +1,6 @@
 -- What the running hash promises, for every state, and what it then says of a message.
--- Document 01, "DHCID bytes and their text": a state has the eight words of the hash value so far, the bytes that wait for a whole block, and how many were taken.
+-- Document 01, "DHCID bytes and their text" (docs/RULES.md, 5.4): a state has the eight words of the hash value so far, the bytes that wait for a
+-- whole block, and how many were taken.
 use Prim.Native.Nat.{ℕ, _+_, _*_, _/_, _%_, _^_}
 use mathlib.Core.Path.{_≡_}
 use mathlib.Core.List.{List, _++_}

@@ -1,5 +1,6 @@
--- What a step of the reader says, in document 01's terms, for each case of what it has found. "Refusal numbers": every refusal returns its number and, reading a listing, a place, with
--- count 0 and any returned part empty, and is told apart from an accepted answer. The words are those of `base` (specs/Answer.antt).
+-- What a step of the reader says, in document 01's terms, for each case of what it has found. "Refusal numbers" (docs/RULES.md, 2.1): every refusal
+-- returns its number and, reading a listing, a place, with count 0 and any returned part empty, and is told apart from an accepted answer. The words
+-- are those of `base` (specs/Answer.antt).
 use Prim.Native.Nat.{ℕ}
 use mathlib.Core.Bool.{Bool, true, false}
 use Rattle.entry.specs.declared.Record.{Record}
@@ -19,7 +20,7 @@ number found.Record = 0
 number found.End = 0
 number (found.Refused n o) = n
 
--- document 01's place: the offset in the listing of the first faulty entry; 0 for a record and for the end, and where no entry is at fault
+-- document 01's place (docs/RULES.md, 1.3): the offset in the listing of the first faulty entry; 0 for a record and for the end, and where no entry is at fault
 abbrev pub offset : Found → ℕ
 offset found.Record = 0
 offset found.End = 0

@@ -1,5 +1,6 @@
--- What the reader that holds on to a listing gives, one answer at a time. Document 01, "The listing's grammar", last paragraph: every record that stands
--- before the first fault, and then that fault's refusal over and over, or the end where there is none; over the limit nothing but 17.
+-- What the reader that holds on to a listing gives, one answer at a time. Document 01, "The listing's grammar", last paragraph (docs/RULES.md, 6.6):
+-- every record that stands before the first fault, and then that fault's refusal over and over, or the end where there is none; over the limit
+-- nothing but 17.
 use Prim.Native.Nat.{ℕ, zero, suc, _+_, _≤_, _<_}
 use mathlib.Core.Bool.{true, false}
 use mathlib.Core.Path.{_≡_}

@@ -1,5 +1,5 @@
--- The options of DHCP messages, of either family: where their data stand in the message, and which have a code. Document 01, "Messages".
--- Which bytes are a message's options is each family's own: Options4.antt of `message4`, Options6.antt of `message6`.
+-- The options of DHCP messages, of either family: where their data stand in the message, and which have a code. Document 01, "Messages"
+-- (docs/RULES.md, 4.1 and 4.3). Which bytes are a message's options is each family's own: Options4.antt of `message4`, Options6.antt of `message6`.
 use Prim.Native.Nat.{ℕ}
 use mathlib.Core.Bool.{Bool, cond}
 use mathlib.Core.List.{List, [], _∷_}

@@ -1,4 +1,5 @@
--- DHCPv4 requests. Document 01, "Messages", DHCPv4, and "Names"; RFC 2131, 2 (the header), RFC 2132, 9.3, 9.6 and 9.14, RFC 4361, 6.1, RFC 4702, 2.
+-- DHCPv4 requests. Document 01, "Messages", DHCPv4, and "Names" (docs/RULES.md, 4.1, 4.2 and 3.4); RFC 2131, 2 (the header), RFC 2132, 9.3, 9.6 and
+-- 9.14, RFC 4361, 6.1, RFC 4702, 2.
 use Prim.Native.Nat.{ℕ, _+_, _-_, _/_, _%_, _≤_, _<_}
 use mathlib.Core.Bool.{Bool, false, cond, _&&_, _||_}
 use mathlib.Core.Path.{_≡_}
@@ -38,7 +39,7 @@ abbrev pub isRequest : Option Located → Bool
 isRequest none = false
 isRequest (some l) = eqb (length (l .bytes)) 1 && eqb (getD (l .bytes) 0 0) 3
 
--- RFC 4361, 6.1: option 61 that begins with 255 has four bytes of IAID and a DUID; document 01: of 3 to 130 bytes
+-- RFC 4361, 6.1: option 61 that begins with 255 has four bytes of IAID and a DUID; document 01 (docs/RULES.md, 4.2): of 3 to 130 bytes
 unfoldable pub hasDuid : Located → Bool
 hasDuid l = eqb (getD (l .bytes) 0 0) 255 && leb 8 (length (l .bytes)) && leb (length (l .bytes)) 135
 

@@ -1,4 +1,5 @@
--- DHCPv6 requests, one level inside another. Document 01, "Messages", DHCPv6, and "Names"; RFC 8415, 8 and 9 (headers), 11.1 (how long a DUID is), 21.2 and 21.10, RFC 4704, 4.
+-- DHCPv6 requests, one level inside another. Document 01, "Messages", DHCPv6, and "Names" (docs/RULES.md, 4.3, 4.4 and 3.4); RFC 8415, 8 and 9
+-- (headers), 11.1 (how long a DUID is), 21.2 and 21.10, RFC 4704, 4.
 use Prim.Native.Nat.{ℕ, suc, _+_, _-_, _≤_, _<_}
 use mathlib.Core.Bool.{Bool, true, false, cond, _&&_, _||_}
 use mathlib.Core.Path.{_≡_}

@@ -1,4 +1,4 @@
--- The options of DHCPv6 messages: which bytes they are, and where their data stand. Document 01, "Messages"; RFC 8415, 21.1.
+-- The options of DHCPv6 messages: which bytes they are, and where their data stand. Document 01, "Messages" (docs/RULES.md, 4.3); RFC 8415, 21.1.
 -- Options are told by the bytes that are written for them; that no bytes are those of two lists of options is a theorem.
 use Prim.Native.Nat.{ℕ, _+_, _<_, _^_}
 use mathlib.Core.Path.{_≡_}

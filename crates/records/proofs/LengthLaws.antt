@@ -1,4 +1,5 @@
--- How long the listing of a table is. Document 01, "Writing": at most 883 bytes a name, 273 for its A, 300 for its AAAA and 310 for its DHCID. Assumes nothing.
+-- How long the listing of a table is. Document 01, "Writing" (docs/RULES.md, 7.8): at most 883 bytes a name, 273 for its A, 300 for its AAAA and 310
+-- for its DHCID. Assumes nothing.
 use Prim.Native.Nat.{ℕ, _*_, _≤_}
 use mathlib.Core.Path.{_≡_, ap, _∙_}
 use mathlib.Core.List.{List, [], _∷_, _++_, append-nil}

@@ -1,5 +1,7 @@
--- The calls that write a table as a listing and that load one: what is answered, and what is left in the bytes that were lent. Document 01, "The table": "Writing", 40 then 13; "Loading", the
--- faults of reading, then 35, then 32; and 13 last, for an area that is too short, of which document 01 does not speak (docs/DECISIONS.md). How many names a table has room for, and the most bytes of a listing, are parameters.
+-- The calls that write a table as a listing and that load one: what is answered, and what is left in the bytes that were lent. Document 01, "The
+-- table" (docs/RULES.md, 7.7 and 7.8): "Writing", 40 then 13; "Loading", the faults of reading, then 35, then 32; and 13 last, for an area that is
+-- too short, of which document 01 does not speak (docs/DECISIONS.md). How many names a table has room for, and the most bytes of a listing, are
+-- parameters.
 use Prim.Native.Nat.{ℕ, _*_, _≤_, _<_}
 use mathlib.Core.Path.{_≡_}
 use mathlib.Core.List.{List, [], _∷_, _++_}

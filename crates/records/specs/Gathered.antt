@@ -1,5 +1,5 @@
--- The table that a list of records makes. Document 01, "The table": loading a listing; at most one A, one AAAA and one DHCID a name; names in order of first record. Refusal 35: a name has two
--- records of one type.
+-- The table that a list of records makes. Document 01, "The table" (docs/RULES.md, 7.7): loading a listing; at most one A, one AAAA and one DHCID a
+-- name; names in order of first record. Refusal 35: a name has two records of one type.
 use Prim.Native.Nat.{ℕ, _≤_}
 use mathlib.Core.Bool.{Bool, cond, _&&_}
 use mathlib.Core.List.{List, [], _∷_, map}

@@ -1,4 +1,5 @@
--- The records of a table, and the listing that is written for it. Document 01, "The table", "Writing": per name A, AAAA and DHCID, as far as it has them, each on the line that the writer of one record spells.
+-- The records of a table, and the listing that is written for it. Document 01, "The table", "Writing" (docs/RULES.md, 7.8): per name A, AAAA and
+-- DHCID, as far as it has them, each on the line that the writer of one record spells.
 use Prim.Native.Nat.{ℕ}
 use mathlib.Core.List.{List, [], _∷_, _++_}
 use mathlib.Core.Option.{Option, none, some}

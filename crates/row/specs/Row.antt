@@ -1,4 +1,4 @@
--- What reading a listing into a lent row promises. Document 01, "The listing's grammar", last paragraphs; "Refusal numbers".
+-- What reading a listing into a lent row promises. Document 01, "The listing's grammar", last paragraphs; "Refusal numbers" (docs/RULES.md, 6.5 and 2.1).
 use Prim.Native.Nat.{ℕ, _+_, _≤_}
 use mathlib.Core.Bool.{false}
 use mathlib.Core.Path.{_≡_}

@@ -1,4 +1,4 @@
--- What a step does to one entry. Document 01, "Add" and "Remove". Each is a definition of its own, for any kind of holder.
+-- What a step does to one entry. Document 01, "Add" and "Remove" (docs/RULES.md, 7.3 and 7.4). Each is a definition of its own, for any kind of holder.
 use Prim.Native.Nat.{ℕ}
 use mathlib.Core.List.{List}
 use mathlib.Core.Option.{none, some}

@@ -1,4 +1,4 @@
--- The entries of the table of names. Document 01, "The table": a name, with at most one A, one AAAA and one DHCID.
+-- The entries of the table of names. Document 01, "The table" (docs/RULES.md, 7.1): a name, with at most one A, one AAAA and one DHCID.
 use Prim.Native.Nat.{ℕ, suc}
 use mathlib.Core.Bool.{cond}
 use mathlib.Core.Path.{_≡_}

@@ -1,6 +1,6 @@
--- The bytes of the table of names, and which bytes are a table's. Document 01, "The table": up to so many names in order of arrival, each with at least one record; sound.
--- The number of names is a parameter; the calls have `mostNames` (Sizes.antt). A slot has the name's wire length, the name in 255 bytes, flags, A, AAAA and DHCID;
--- what is absent is zeros, and so is an unused slot. Used slots come first.
+-- The bytes of the table of names, and which bytes are a table's. Document 01, "The table" (docs/RULES.md, 7.1 and 7.2): up to so many names in order
+-- of arrival, each with at least one record; sound. The number of names is a parameter; the calls have `mostNames` (Sizes.antt). A slot has the
+-- name's wire length, the name in 255 bytes, flags, A, AAAA and DHCID; what is absent is zeros, and so is an unused slot. Used slots come first.
 use Prim.Native.Nat.{ℕ, _+_, _-_, _*_, _≤_}
 use mathlib.Core.Bool.{true}
 use mathlib.Core.Path.{_≡_}
@@ -65,7 +65,7 @@ pub record IsTable (limit : ℕ) (t : List TableEntry) (b : List ℕ) : Type 0 w
   pub room : length t ≤ limit
   pub form : b ≡ tableBytes limit t
 
--- document 01's sound: that, and no name stands twice
+-- document 01's sound (docs/RULES.md, 7.2): that, and no name stands twice
 pub record Sound (limit : ℕ) (b : List ℕ) : Type 0 where
   pub table : List TableEntry
   pub slots : IsTable limit table b

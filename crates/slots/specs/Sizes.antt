@@ -1,5 +1,6 @@
--- The sizes of the table of names, and where the parts of a slot stand: each number once, by its name. Document 01, "The table": room for 64 names, each with at most one A, one AAAA and one
--- DHCID. A slot has the name's wire length (1 byte), the name (255), flags (1), and the three fields, in this order (Form.antt).
+-- The sizes of the table of names, and where the parts of a slot stand: each number once, by its name. Document 01, "The table" (docs/RULES.md, 7.1
+-- and 7.2): room for 64 names, each with at most one A, one AAAA and one DHCID. A slot has the name's wire length (1 byte), the name (255), flags
+-- (1), and the three fields, in this order (Form.antt).
 use Prim.Native.Nat.{ℕ, _+_, _*_}
 use Rattle.slots.specs.declared.Family.{Family}
 use Rattle.slots.specs.declared.Family.the-variants.{V4, V6}

@@ -1,5 +1,5 @@
--- What `judge` finds of a listing: whether its records make a table, and the slot of each. Document 01, "The table": loading, the faults of reading (17 and 20 to 24), then 35, then 32. How a sweep over
--- the entries finds it stands apart, in specs/Sweeping.antt.
+-- What `judge` finds of a listing: whether its records make a table, and the slot of each. Document 01, "The table" (docs/RULES.md, 7.7): loading,
+-- the faults of reading (17 and 20 to 24), then 35, then 32. How a sweep over the entries finds it stands apart, in specs/Sweeping.antt.
 use Prim.Native.Nat.{ℕ, _≤_, _<_}
 use mathlib.Core.Path.{_≡_}
 use mathlib.Core.Logic.{_⊎_}

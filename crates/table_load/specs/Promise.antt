@@ -1,4 +1,4 @@
--- What the functions below a load promise one another. Document 01, "The table": loading a listing.
+-- What the functions below a load promise one another. Document 01, "The table" (docs/RULES.md, 7.7): loading a listing.
 use Prim.Native.Nat.{ℕ, _*_, _≤_}
 use mathlib.Core.Bool.{cond}
 use mathlib.Core.Path.{_≡_}

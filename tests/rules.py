@@ -1,0 +1,148 @@
+"""Hold docs/RULES.md together with the header and with those who cite it: tests/rules.sh says how.
+
+    cited      each section that a file cites is there, and so is each that the rules themselves cite
+    named      each comment of crates/ that says "document 01" names a section
+    refusals   section 2.2 has the numbers of the header, and 25, which no call for C gives
+    calls      section 8.2 has the calls of the header
+    slot       section 7.2 has the sizes and the offsets of the header
+    lines      no line is longer than 119 characters
+"""
+
+import os
+import re
+import subprocess
+import sys
+from typing import Callable, Dict, List
+
+RULES, HEADER = "docs/RULES.md", "include/vichrelka.h"
+NUMBERS = r"\d+(?:\.\d+)?(?:(?:,| and|, and| to) \d+(?:\.\d+)?)*"
+CITES = re.compile(r"RULES\.md`?, (?:sections? )?(%s)" % NUMBERS)
+INNER = re.compile(r"\(((?:[A-Za-z :]+ )?\d+\.\d+(?:(?:,| and| to) \d+\.\d+)*)\)")  # a section in brackets, within the rules
+
+Files = Dict[str, str]
+
+
+def read_files() -> Files:
+    """What the repository has, but for what it only stores."""
+    listed = subprocess.run(["git", "ls-files", "-co", "--exclude-standard"], check=True, stdout=subprocess.PIPE).stdout.decode().split("\n")
+    names = [name for name in listed if re.search(r"\.(antt|rt|md|py|sh|bash|c|h|txt)$", name) and os.path.isfile(name) and name != "tests/rules.py"]
+    files = {}
+    for name in names:
+        with open(name, encoding="utf-8") as file:
+            files[name] = file.read()
+    return files
+
+
+def flowing(text: str) -> str:
+    """Comments without their marks, on one line: a citation may go over two."""
+    return re.sub(r"\s+", " ", re.sub(r"(?m)^\s*(?:--|//|#|\*)? ", " ", text))
+
+
+def section(rules: str, number: str) -> str:
+    found = re.search(r"^### %s\. .*?(?=^##|\Z)" % re.escape(number), rules, re.M | re.S)
+    return found[0] if found else ""
+
+
+def cited(files: Files) -> List[str]:
+    there = set(re.findall(r"^##+ (\d+(?:\.\d+)?)\. ", files[RULES], re.M))
+    wrong = []
+    for name, text in files.items():
+        flow = flowing(text)
+        found = CITES.findall(flow) + (INNER.findall(flow) if name == RULES else [])
+        wrong += ["%s cites section %s, which is not there" % (name, number)
+                  for numbers in found for number in re.findall(r"\d+(?:\.\d+)?", numbers) if number not in there]
+    return wrong
+
+
+def named(files: Files) -> List[str]:
+    wrong = []
+    for name, text in files.items():
+        if name.startswith("crates/") and name.endswith((".antt", ".rt")):
+            for comment in re.findall(r"(?m)(?:^\s*(?:--|//).*\n)+", text):
+                if re.search("[Dd]ocument 01(?!'s example)", comment) and "RULES.md" not in comment and not quotes(comment):
+                    wrong.append("%s: document 01 without a section: %s" % (name, flowing(comment)[:100]))
+    return wrong
+
+
+def quotes(comment: str) -> bool:
+    """A comment that has the customer's own words, in which document 01 is named."""
+    return "the refusal number that document 01 fixes, by its order" in flowing(comment)
+
+
+def refusals(files: Files) -> List[str]:
+    header = {int(number) for number in re.findall(r"VICHRELKA_REFUSED_\w+ = (\d+)", files[HEADER])}
+    rules = {int(number) for row in re.findall(r"^\| ([\d, ]+) \|", section(files[RULES], "2.2"), re.M) for number in row.split(", ")}
+    return ["refusal %d is in the header alone, or in section 2.2" % number for number in sorted(rules ^ (header | {25}))]
+
+
+def calls(files: Files) -> List[str]:
+    header = set(re.findall(r"^uint64_t vichrelka_(\w+)\(", files[HEADER], re.M))
+    rules = set(re.findall(r"^\| `(\w+)`", section(files[RULES], "8.2"), re.M))
+    return ["the call %s is in the header alone, or in section 8.2" % name for name in sorted(rules ^ header)]
+
+
+def slot(files: Files) -> List[str]:
+    defined = {name: int(value) for name, value in re.findall(r"^#define VICHRELKA_(\w+) (\d+)$", files[HEADER], re.M)}
+    text = section(files[RULES], "7.2")
+    fields = [(int(at), int(size), what) for at, size, what in re.findall(r"^\| (\d+) \| (\d+) \| (.*) \|$", text, re.M)]
+    wrong = [] if len(fields) == 6 else ["section 7.2 has %d fields" % len(fields)]
+    end = 0
+    for (at, size, what), name in zip(fields, ["", "SLOT_NAME", "SLOT_FLAGS", "SLOT_A", "SLOT_AAAA", "SLOT_DHCID"]):
+        if at != end or name and defined[name] != at:
+            wrong.append("a field of section 7.2 is not where the header has it, or not behind the one before: " + what)
+        end = at + size
+    said = re.search(r"A table is ([\d,]+) slots of ([\d,]+) bytes, ([\d,]+) bytes", text)
+    sizes = [int(number.replace(",", "")) for number in said.groups()] if said else []
+    names, length = defined["TABLE_NAMES"], defined["SLOT_LEN"]
+    if sizes != [names, length, names * length] or end != length:
+        wrong.append("section 7.2 has other sizes than the header")
+    return wrong
+
+
+def lines(files: Files) -> List[str]:
+    return ["line %d has %d characters" % (number + 1, len(line)) for number, line in enumerate(files[RULES].split("\n")) if len(line) > 119]
+
+
+CHECKS: List[Callable[[Files], List[str]]] = [cited, named, refusals, calls, slot, lines]
+
+# What each check has to tell: a file, the text that is there, and what is put in its place
+PLANTED = [
+    (cited, RULES, "### 3.4. ", "### 3.9. "),
+    (cited, RULES, "(4.2, 4.4)", "(4.2, 4.8)"),
+    (cited, "crates/name/specs/Label.antt", "docs/RULES.md, 3.1", "docs/RULES.md, 31"),
+    (cited, "crates/base/specs/Answer.antt", "docs/RULES.md, 2.1)", "docs/RULES.md, 2.1 and 2.4)"),
+    (named, "crates/name/specs/Label.antt", " (docs/RULES.md, 3.1)", ""),
+    (named, "crates/edges/src/main.rt", "docs/RULES.md, 9", "9"),
+    (refusals, RULES, "| 34 |", "| 36 |"),
+    (refusals, HEADER, "TABLE_FULL = 32", "TABLE_FULL = 33"),
+    (calls, RULES, "| `table_count` (D) |", "| `table_counts` (D) |"),
+    (calls, HEADER, "uint64_t vichrelka_table_clear(", "uint64_t vichrelka_table_wipe("),
+    (slot, RULES, "| 261 | 16 |", "| 261 | 15 |"),
+    (slot, HEADER, "VICHRELKA_SLOT_A 257", "VICHRELKA_SLOT_A 258"),
+    (slot, RULES, "19,968 bytes (D). Names", "19,986 bytes (D). Names"),
+    (slot, HEADER, "VICHRELKA_TABLE_NAMES 64", "VICHRELKA_TABLE_NAMES 65"),
+    (lines, RULES, "# The rules\n", "# The rules" + "!" * 119 + "\n"),
+]
+
+
+def main() -> int:
+    files = read_files()
+    passed = failed = 0
+    for check in CHECKS:
+        wrong = check(files)
+        for said in wrong:
+            print("rules: " + said)
+        passed += not wrong
+        failed += len(wrong)
+    for check, name, old, new in PLANTED:
+        told = files[name].count(old) > 0 and check({**files, name: files[name].replace(old, new, 1)}) != check(files)
+        passed += told
+        failed += not told
+        if not told:
+            print("rules: %s does not tell '%s' in %s from '%s'" % (check.__name__, new[:40], name, old[:40]))
+    print("%d passed, %d failed" % (passed, failed))
+    return 1 if failed else 0
+
+
+if __name__ == "__main__":
+    sys.exit(main())
