@@ -207,3 +207,24 @@ uint64_t table_clear_plain(uint8_t *table, size_t table_len, const uint8_t *name
     memset(last, 0, sizeof *last);
     return 0;
 }
+
+uint64_t table_find_plain(const uint8_t *table, size_t table_len, const uint8_t *name, size_t name_len)
+{
+    const struct slot *slots = (const struct slot *)table;
+    struct name key;
+    int count = count_sound(slots, table_len);
+    if (count < 0)
+        return refuse(VICHRELKA_REFUSED_TABLE_NOT_SOUND);
+    if (!read_name(&key, name, name_len))
+        return refuse(VICHRELKA_REFUSED_NO_PROPER_NAME);
+    for (int i = 0; i < count; i++)
+        if (holds(&slots[i], key.bytes, key.len))
+            return accepted((uint32_t)i);
+    return refuse(VICHRELKA_REFUSED_NAME_NOT_HELD);
+}
+
+uint64_t table_count_plain(const uint8_t *table, size_t table_len)
+{
+    int count = count_sound((const struct slot *)table, table_len);
+    return count < 0 ? refuse(VICHRELKA_REFUSED_TABLE_NOT_SOUND) : accepted((uint32_t)count);
+}

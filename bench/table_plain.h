@@ -12,6 +12,8 @@ uint64_t table_add_plain(uint8_t *table, size_t table_len, const uint8_t *name, 
 uint64_t table_remove_plain(uint8_t *table, size_t table_len, const uint8_t *name, size_t name_len, const uint8_t *dhcid, size_t dhcid_len,
                             uint32_t family, const uint8_t *address, size_t address_len);
 uint64_t table_clear_plain(uint8_t *table, size_t table_len, const uint8_t *name, size_t name_len);
+uint64_t table_find_plain(const uint8_t *table, size_t table_len, const uint8_t *name, size_t name_len);
+uint64_t table_count_plain(const uint8_t *table, size_t table_len);
 uint64_t table_load_plain(uint8_t *table, size_t table_len, const uint8_t *text, size_t text_len);
 uint64_t table_write_plain(const uint8_t *table, size_t table_len, uint8_t *out, size_t out_len);
 

@@ -1,5 +1,5 @@
 #!/usr/bin/env bash
-# Add, remove and clear on the table of names, called from C, against the model in Python (tests/README.md): hand-written edges, small forms,
+# Add, remove, clear, find and count on the table of names, called from C, against the model in Python (tests/README.md): hand-written edges, small forms,
 # generated steps and damaged tables. Then the comparison itself is tried: it has to tell the library from every shim of tests/planted/table/,
 # and from `faithful` not. Last line: `N passed, M failed`, counting steps and shims. tests/from_c.bash has what can be set.
 set -euo pipefail
@@ -8,5 +8,5 @@ cd "$(dirname "$0")/.."
 begin table
 # shellcheck disable=SC2119
 build
-compare 30000
+compare 36000
 finish

@@ -1,4 +1,4 @@
-"""Steps on tables of names: sequences of them, with faults and on damaged tables, and every step of some small forms.
+"""Steps on tables of names, with find and count: sequences of them, with faults and on damaged tables, and every step of some small forms.
 
     generated(seed, batch, count)  cases by chance, the same ones for the same numbers
     small_forms()                  every step of some small forms
@@ -125,7 +125,7 @@ def another(rng: random.Random, some: Sequence[bytes], than: bytes) -> bytes:
 # Steps with a known answer
 
 class Step(NamedTuple):
-    """A call without its table, and its answer on a sound one: the refusal, or the value and the slots that it leaves."""
+    """A call without its table, and its answer on a sound one: the refusal, or the value and the slots that it leaves; find and count leave all."""
     call: Call
     refusal: Optional[int]
     value: int = 0
@@ -147,7 +147,7 @@ class State(NamedTuple):
 
     def call(self, rng: random.Random, word: str, name: bytes, dhcid: bytes = b"") -> Call:
         """With the rest by chance."""
-        if word == "clear":
+        if word in ("clear", "find"):
             return Call(word, b"", in_either_case(rng, name))
         family = rng.choice((4, 6))
         return Call(word, b"", in_either_case(rng, name), dhcid or rng.choice(self.stock.dhcids), family,
@@ -219,7 +219,7 @@ def by_hand(rng: random.Random, state: State) -> Optional[Step]:
 
 def unknown(rng: random.Random, state: State) -> Optional[Step]:
     name = state.unused(rng)
-    return None if name is None else Step(state.call(rng, rng.choice(("remove", "clear")), name), 33)
+    return None if name is None else Step(state.call(rng, rng.choice(("remove", "clear", "find")), name), 33)
 
 
 def clear_known(rng: random.Random, state: State) -> Optional[Step]:
@@ -229,14 +229,26 @@ def clear_known(rng: random.Random, state: State) -> Optional[Step]:
     return Step(state.call(rng, "clear", state.slots[at].name), None, 0, replaced(state.slots, at))
 
 
+def find_known(rng: random.Random, state: State) -> Optional[Step]:
+    if not state.slots:
+        return None
+    at = rng.choice((0, len(state.slots) - 1, rng.randrange(len(state.slots))))
+    return Step(state.call(rng, "find", state.slots[at].name), None, at, state.slots)
+
+
+def count_names(_: random.Random, state: State) -> Step:
+    return Step(Call("count", b""), None, len(state.slots), state.slots)
+
+
 STEPS = ((add_unused,) * 6 + (add_same,) * 3 + (add_other,) * 5
-         + (remove_held,) * 4 + (remove_other_address, remove_other_address, remove_other_dhcid, by_hand, unknown) + (clear_known,) * 2)
+         + (remove_held,) * 4 + (remove_other_address, remove_other_address, remove_other_dhcid, by_hand, unknown) + (clear_known,) * 2
+         + (find_known,) * 3 + (count_names,) * 2)
 
 
 # Faults
 
 ORDER = (12, 40, 9, 15, 16)
-FAULTS = {"add": (12, 9, 15, 16), "remove": (12, 9, 15, 16), "clear": (9,)}
+FAULTS = {"add": (12, 9, 15, 16), "remove": (12, 9, 15, 16), "clear": (9,), "find": (9,), "count": ()}
 OTHER_NUMBERS = (2, 3, 5, 7, 12, 255, 256, 257, 260, 262, 2 ** 31, 2 ** 32 - 1)
 
 
@@ -398,6 +410,9 @@ def one_byte(rng: random.Random, slots: Slots) -> bytes:
 
 # Cases
 
+ASKING = ("find", "count")  # they leave no table
+
+
 def case(rng: random.Random, state: State, step: Step) -> Case:
     """A step as it is, or with faults; on the table as it is, or damaged."""
     faults: List[int] = []
@@ -418,8 +433,8 @@ def case(rng: random.Random, state: State, step: Step) -> Case:
         kind = "damaged"
         faults.append(40)
     refusal = min(faults, key=ORDER.index, default=step.refusal)
-    meant = ("ok", step.value, table_bytes(step.after)) if refusal is None else ("refused", refusal)
-    return Case(kind, call._replace(table=table), meant)
+    left = () if call.word in ASKING else (table_bytes(step.after),)
+    return Case(kind, call._replace(table=table), ("ok", step.value, *left) if refusal is None else ("refused", refusal))
 
 
 def sequence(rng: random.Random) -> Iterator[Case]:
@@ -456,7 +471,10 @@ ADDRESSES = {4: (b"\xc0\0\2\1", b"\xc0\0\2\2"), 6: (b"\x20\1" + bytes(13) + b"\1
 ADD = Call("add", b"", B_NAME, DHCIDS[0], 4, ADDRESSES[4][0], 1)
 REMOVE = ADD._replace(word="remove", policy=0)
 CLEAR = Call("clear", b"", B_NAME)
-CALLS = (ADD, REMOVE, CLEAR)
+FIND = Call("find", b"", B_NAME)
+COUNT = Call("count", b"")
+CALLS = (ADD, REMOVE, CLEAR, FIND, COUNT)
+NAMED = (ADD, REMOVE, CLEAR, FIND)
 
 
 def few_names() -> Iterator[Call]:
@@ -464,7 +482,7 @@ def few_names() -> Iterator[Call]:
     records = [fields for fields in itertools.product((b"", ADDRESSES[4][0]), (b"", ADDRESSES[6][0]), (b"",) + DHCIDS) if any(fields)]
     tables = [[Slot(name, *fields) for name, fields in zip((A_NAME, B_NAME), chosen)]
               for count in range(3) for chosen in itertools.product(records, repeat=count)]
-    steps = [Call("clear", b"", name) for name in (A_NAME, B_NAME.upper(), C_NAME)]
+    steps = [Call(word, b"", name) for word in ("clear", "find") for name in (A_NAME, B_NAME.upper(), C_NAME)] + [COUNT]
     for name, dhcid, family, which in itertools.product((A_NAME.upper(), B_NAME, C_NAME), DHCIDS, (4, 6), (0, 1)):
         step = ADD._replace(name=name, dhcid=dhcid, family=family, address=ADDRESSES[family][which])
         steps += [step, step._replace(policy=0), step._replace(word="remove", policy=0)]
@@ -480,26 +498,30 @@ SOME_TABLE = table_bytes(SOME)
 def bytes_of_tables() -> Iterator[Call]:
     """Every byte of a small table is another; every value of those that say something; every length about a few."""
     for at in range(TABLE):
-        yield CALLS[at % 3]._replace(table=with_byte(SOME_TABLE, at, SOME_TABLE[at] ^ 1))
+        yield CALLS[at % 5]._replace(table=with_byte(SOME_TABLE, at, SOME_TABLE[at] ^ 1))
     start = 2 * SLOT
     for at in (0, 1, 2, 3, 4, 5, 255, FLAGS_AT, A_AT, AAAA_AT, DHCID_AT, DHCID_AT + 1, DHCID_AT + 2, DHCID_AT + 3, SLOT - 1, SLOT, SLOT + 1):
         for value in range(256):
-            yield CALLS[value % 3]._replace(table=with_byte(SOME_TABLE, start + at, value))
+            yield CALLS[value % 5]._replace(table=with_byte(SOME_TABLE, start + at, value))
+            yield (COUNT if value % 5 < 4 else FIND)._replace(table=with_byte(SOME_TABLE, start + at, value))
     for length in itertools.chain(range(2 * SLOT), range(SLOT, 66 * SLOT, SLOT), range(TABLE - 40, TABLE + 40), (65536, TABLE + 65536, 131072)):
-        yield CALLS[length % 3]._replace(table=SOME_TABLE.ljust(length, b"\0")[:length])
+        yield CALLS[length % 5]._replace(table=SOME_TABLE.ljust(length, b"\0")[:length])
 
 
 def full_tables() -> Iterator[Call]:
-    """62, 63 and 64 names: steps on each of them and on another; every two of 64 with one name."""
+    """62, 63 and 64 names: steps on each of them and on another; every number of names counted; every two of 64 with one name."""
     names = [wire([b"n%d" % number]) for number in range(NAMES)]
     full = tuple(Slot(name, ADDRESSES[4][0], ADDRESSES[6][0], DHCIDS[0]) for name in names)
     for count in (62, 63, 64):
         table = table_bytes(full[:count])
         for name in names[:count] + [B_NAME]:
-            for step in CALLS + (ADD._replace(dhcid=DHCIDS[1]), ADD._replace(dhcid=DHCIDS[1], policy=0)):
+            for step in NAMED + (ADD._replace(dhcid=DHCIDS[1]), ADD._replace(dhcid=DHCIDS[1], policy=0)):
                 yield step._replace(table=table, name=name)
+    for count in range(NAMES + 1):
+        yield COUNT._replace(table=table_bytes(full[:count]))
     for one, other in itertools.combinations(range(NAMES), 2):
-        yield CLEAR._replace(table=table_bytes(replaced(full, other, full[other]._replace(name=names[one]))), name=names[one])
+        call = (CLEAR, FIND, COUNT)[(one + other) % 3]
+        yield call._replace(table=table_bytes(replaced(full, other, full[other]._replace(name=names[one]))), name=names[one])
 
 
 def arguments() -> Iterator[Call]:
@@ -514,7 +536,7 @@ def arguments() -> Iterator[Call]:
             yield call._replace(dhcid=(DHCIDS[0] + bytes(256))[:value])
             for family in (4, 6):
                 yield call._replace(family=family, address=(ADDRESSES[family][0] + bytes(256))[:value])
-    for call in (call._replace(table=SOME_TABLE) for call in CALLS):
+    for call in (call._replace(table=SOME_TABLE) for call in NAMED):
         for value in range(256):
             for name in (bytes([2, value, 98, 0]), bytes([value, 97, 98, 0]), bytes([2, 97, 98, value]), B_NAME + bytes([value]),
                          bytes([value]) + b"a" * value + b"\0", (long_name + b"\0")[:value + 1]):
@@ -532,8 +554,10 @@ def line(call: Call, zeros: Tuple[int, int, int, int] = (0, 0, 0, 0)) -> str:
     table = packed(call.table) + (",-+%d" % zeros[0] if zeros[0] else "")
     name, dhcid, address = ((data.hex() or "-") + ("+%d" % count if count else "")
                             for data, count in zip((call.name, call.dhcid, call.address), zeros[1:]))
-    if call.word == "clear":
-        return "clear %s %s" % (table, name)
+    if call.word == "count":
+        return "count " + table
+    if call.word in ("clear", "find"):
+        return "%s %s %s" % (call.word, table, name)
     fields = "%s %s %s %s %d %s" % (call.word, table, name, dhcid, call.family, address)
     return fields + " %d" % call.policy if call.word == "add" else fields
 

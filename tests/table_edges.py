@@ -7,7 +7,7 @@
 
 import os
 import re
-from typing import Any, Callable, Dict, List, NamedTuple, Tuple
+from typing import Any, Callable, Dict, Iterator, List, NamedTuple, Tuple
 
 from message_edges import Bytes, read_bytes
 from table_model import A, AAAA, DHCID, SLOT, TABLE_LENGTH, Answer, Call
@@ -64,25 +64,36 @@ def read_table(form: str) -> Bytes:
 
 # Lines
 
-COLUMNS = {"add": 9, "remove": 8, "clear": 5}
+COLUMNS = {"add": 9, "remove": 8, "clear": 5, "find": 5, "count": 4}
 
 
-def answer_of(form: str) -> Answer:
-    said = re.fullmatch(r"refused (?P<refused>\d+)|(?P<value>[012]) (?P<table>.+)", form)
-    if not said:
-        raise ValueError("no answer: " + form)
-    return ("refused", int(said["refused"])) if said["refused"] else ("ok", int(said["value"]), read_table(said["table"]).data)
+def answer_of(word: str, form: str) -> Answer:
+    refused = re.fullmatch(r"refused (\d+)", form)
+    if refused:
+        return ("refused", int(refused[1]))
+    if word in ("find", "count"):
+        return ("ok", int(form))
+    value, table_form = form.split(" ", 1)
+    return ("ok", int(value), read_table(table_form).data)
 
 
 def edge_of(line: str) -> Edge:
-    word, table_form, name_form, *rest, answer_form, why = (column.strip() for column in line.split("|"))
-    if COLUMNS.get(word) != 5 + len(rest) or not why:
+    word, table_form, *rest, answer_form, why = (column.strip() for column in line.split("|"))
+    if COLUMNS.get(word) != 4 + len(rest) or not why:
         raise ValueError("no step: " + line)
-    dhcid_form, family, address_form, policy = rest + ["-", "0", "-", "0"][len(rest):]
+    name_form, dhcid_form, family, address_form, policy = rest + ["-", "-", "0", "-", "0"][len(rest):]
     table = read_table(table_form)
     name, dhcid, address = (read_bytes(form, {}) for form in (name_form, dhcid_form, address_form))
     call = Call(word, table.data, name.data, dhcid.data, int(family), address.data, int(policy))
-    return Edge(call, (table.zeros, name.zeros, dhcid.zeros, address.zeros), answer_of(answer_form), why)
+    return Edge(call, (table.zeros, name.zeros, dhcid.zeros, address.zeros), answer_of(word, answer_form), why)
+
+
+def also_asked(edge: Edge) -> Iterator[Edge]:
+    """The calls that are refused because this one is: a find with a clear, and a count where the table is not sound"""
+    if edge.call.word == "clear" and edge.answer[0] == "refused":
+        yield edge._replace(call=edge.call._replace(word="find"), why="find too: " + edge.why)
+        if edge.answer == ("refused", 40):
+            yield edge._replace(call=edge.call._replace(word="count", name=b""), why="count too: " + edge.why)
 
 
 def read_lines(path: str, edge_of_line: Callable[[str], Any]) -> List[Any]:
@@ -106,4 +117,5 @@ def read_lines(path: str, edge_of_line: Callable[[str], Any]) -> List[Any]:
 
 
 def read_edges() -> List[Edge]:
-    return read_lines(PATH, edge_of)
+    edges = read_lines(PATH, edge_of)
+    return edges + [asked for edge in edges for asked in also_asked(edge)]

@@ -1,9 +1,10 @@
-"""What the steps of the table of names have to answer: a second implementation of document 01's rules for the table.
+"""What the steps of the table of names have to answer: a second implementation of document 01's rules for the table (docs/RULES.md, 7).
 
 It was written from the paper and not from the library, and goes another way: the bytes are read into a dictionary of names, which keeps the
-order of arrival by itself; they are sound if that dictionary, written out again, gives them back; a step changes the dictionary.
+order of arrival by itself; they are sound if that dictionary, written out again, gives them back; a step changes the dictionary, find and count
+look at it.
 
-    answer(call)      of a Call: ("ok", value, the table's bytes afterwards) or ("refused", number)
+    answer(call)      of a Call: ("ok", value, the table's bytes afterwards), ("ok", value) of find and count, or ("refused", number)
     printed(answer)   an answer as the harness prints it
     packed(data)      a table's bytes as the harness reads and prints them
 
@@ -39,9 +40,9 @@ Answer = Union[Tuple[str, int, bytes], Tuple[str, int]]
 
 
 class Call(NamedTuple):
-    word: str  # add, remove or clear, which have no more fields than they need
+    word: str  # add, remove, clear, find or count, which have no more fields than they need
     table: bytes
-    name: bytes
+    name: bytes = b""
     dhcid: bytes = b""
     family: int = 0
     address: bytes = b""
@@ -122,13 +123,25 @@ def clear(table: Table, name: bytes, _: Call) -> int:
 STEPS = {"add": add, "remove": remove, "clear": clear}
 
 
+# The other calls
+
+def find(table: Table, name: bytes) -> int:
+    if name not in table:
+        raise Refusal(NAME_UNKNOWN)
+    return list(table).index(name)
+
+
 def answered(call: Call) -> Answer:
-    has_address = call.word != "clear"
+    has_address = call.word in ("add", "remove")
     if has_address and (call.family not in ADDRESS or call.policy not in (0, 1)):
         raise Refusal(UNKNOWN_SETTING)
     table = read(call.table)
+    if call.word == "count":
+        return ("ok", len(table))
     if not is_proper(call.name):
         raise Refusal(NO_PROPER_NAME)
+    if call.word == "find":
+        return ("ok", find(table, call.name.lower()))
     if has_address and not is_dhcid(call.dhcid):
         raise Refusal(DHCID_MALFORMED)
     if has_address and len(call.address) != ADDRESS_SIZE[call.family]:
@@ -159,4 +172,4 @@ def packed(data: bytes) -> str:
 def printed(given: Answer) -> str:
     if given[0] == "refused":
         return "refused %d at 0" % given[1]
-    return "ok %d %s" % (given[1], packed(given[2]))
+    return " ".join(["ok %d" % given[1]] + [packed(table) for table in given[2:]])

@@ -20,9 +20,9 @@ fail() {
   failed=$((failed + 1))
 }
 
-# show FILE: a text that may have any bytes, its beginning
+# show FILE: a text that may have any bytes, its beginning; where it is cut a line ends
 show() {
-  head -c 2000 "$1" | cat -v | sed 's/^/    | /'
+  head -c 2000 "$1" | cat -v | sed -e 's/^/    | /' -e "\$a\\"
 }
 
 # same WHAT EXPECTED ACTUAL: two files, byte for byte

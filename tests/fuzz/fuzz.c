@@ -36,7 +36,8 @@ void differ(const char *call, const char *what, uint64_t library, uint64_t plain
     abort();
 }
 
-const char *const CALL_NAMES[CALLS] = {"name", "dhcid", "check", "load", "add", "remove", "clear", "write"};
+const char *const CALL_NAMES[CALLS] = {"name",  "dhcid", "check", "load",  "add",       "remove",
+                                       "clear", "write", "find",  "count", "from text", "to text"};
 uint64_t answers[CALLS][NUMBERS];
 
 void count(enum call call, uint64_t answer)

@@ -8,5 +8,7 @@ uint64_t name_plain(uint32_t family, uint32_t setting, const uint8_t *message, s
 uint64_t dhcid_plain(uint32_t family, uint32_t setting, const uint8_t *message, size_t message_len, const uint8_t *site, size_t site_len,
                      uint8_t *out, size_t out_len);
 uint64_t listing_check_plain(const uint8_t *text, size_t text_len);
+uint64_t name_from_text_plain(const uint8_t *text, size_t text_len, uint8_t *out, size_t out_len);
+uint64_t name_to_text_plain(const uint8_t *name, size_t name_len, uint8_t *out, size_t out_len);
 
 #endif

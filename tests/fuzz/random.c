@@ -376,7 +376,7 @@ static void make_listing(void)
 
 /* Tables: the steps are table.c's. */
 
-enum { PUT, SLOT, FILL, LENGTH, FIRST_CALL, CLEAR_CALL = FIRST_CALL + 2, WRITE_CALL, LOAD_CALL, STEPS };
+enum { PUT, SLOT, FILL, LENGTH, FIRST_CALL, CLEAR_CALL = FIRST_CALL + 2, WRITE_CALL, LOAD_CALL, FIND_CALL, COUNT_CALL, STEPS };
 
 /* A small name's choice: proper, in lower case, and seldom one that FILL has as well */
 static uint8_t small_name(void)
@@ -438,12 +438,9 @@ static void put_damage(void)
     put((uint8_t)chance(one_in(2) ? 8 : 256));
 }
 
-/* An add, a remove or a clear: of the name and the client of a slot, of others, or of what the input says */
-static void put_call(uint32_t step)
+/* The name of a slot, another one, or what the input says */
+static void put_asked_name(uint8_t which)
 {
-    uint8_t which = (uint8_t)chance(one_in(2) ? 8 : 64);
-    put((uint8_t)step);
-    put((uint8_t)(one_in(100) ? chance(256) : chance(2)));
     if (one_in(16)) {
         put(2);
         put(0);
@@ -457,6 +454,15 @@ static void put_call(uint32_t step)
         put((uint8_t)(is_slot ? 1 | chance(2) << 1 : 0));
         put(is_slot ? which : small_name());
     }
+}
+
+/* An add, a remove or a clear: of the name and the client of a slot, of others, or of what the input says */
+static void put_call(uint32_t step)
+{
+    uint8_t which = (uint8_t)chance(one_in(2) ? 8 : 64);
+    put((uint8_t)step);
+    put((uint8_t)(one_in(100) ? chance(256) : chance(2)));
+    put_asked_name(which);
     if (step == CLEAR_CALL)
         return;
     if (one_in(24)) {
@@ -507,7 +513,9 @@ static void make_table(void)
             if (step == WRITE_CALL) {
                 put((uint8_t)chance(2));
                 put((uint8_t)(one_in(2) ? 0 : chance(4)));
-            } else {
+            } else if (step == FIND_CALL) {
+                put_asked_name((uint8_t)chance(one_in(2) ? 8 : 64));
+            } else if (step == LOAD_CALL) {
                 uint32_t changes = one_in(2) ? 0 : chance(4);
                 put((uint8_t)changes);
                 for (; changes > 0; changes--) {
@@ -520,13 +528,42 @@ static void make_table(void)
     damage(one_in(16) ? 0 : len);
 }
 
+/* Names in text */
+
+/* What put_name has put since `at` becomes a text: each label moves to where its length was, and a dot is behind it. */
+static void make_text(size_t at)
+{
+    while (at < len && input[at] != 0) {
+        size_t label = input[at];
+        memmove(input + at, input + at + 1, label);
+        input[at + label] = '.';
+        at += label + 1;
+    }
+    len = at;
+}
+
+/* The text or the name, and an out that has about as much room as it needs */
+static void make_name_text(void)
+{
+    put(0);
+    put_name();
+    if (one_in(2))
+        make_text(1);
+    if (one_in(16)) /* what a reader might trim, or take for the end */
+        put((uint8_t)" \t\r\n.\0"[chance(6)]);
+    damage(1);
+    size_t room = len < 3 || one_in(4) ? chance(256) : len - 3 + chance(5);
+    input[0] = (uint8_t)(room < 255 ? room : 255);
+}
+
 /* Targets */
 
 static const struct {
     const char *name;
     target_fn *try;
     void (*make)(void);
-} targets[] = {{"message", try_message, make_message}, {"listing", try_listing, make_listing}, {"table", try_table, make_table}};
+} targets[] = {{"message", try_message, make_message}, {"listing", try_listing, make_listing}, {"table", try_table, make_table},
+             {"name_text", try_name_text, make_name_text}};
 enum { TARGETS = sizeof targets / sizeof targets[0] };
 
 static void on_find(int number)
@@ -581,7 +618,7 @@ int main(int argc, char **argv)
     while (argc == 5 && target < TARGETS && strcmp(argv[1], targets[target].name) != 0)
         target++;
     if (argc != 5 || target == TARGETS) {
-        fprintf(stderr, "random: TARGET SEED CALLS FIND, where TARGET is message, listing or table\n");
+        fprintf(stderr, "random: TARGET SEED CALLS FIND, where TARGET is message, listing, table or name_text\n");
         return 2;
     }
     uint64_t seed = strtoull(argv[2], NULL, 10), most = strtoull(argv[3], NULL, 10), inputs = 0;

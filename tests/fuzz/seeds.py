@@ -13,9 +13,10 @@ sys.path.append(str(HERE.parent))
 import compare  # noqa: E402
 import load_edges  # noqa: E402
 import message_edges  # noqa: E402
+import name_text_edges  # noqa: E402
 import table_edges  # noqa: E402
 
-PUT, SLOT, FILL, LENGTH, ADD, REMOVE, CLEAR, WRITE, LOAD = range(9)  # as in table.c
+PUT, SLOT, FILL, LENGTH, ADD, REMOVE, CLEAR, WRITE, LOAD, FIND, COUNT = range(11)  # as in table.c
 STEP = {"add": ADD, "remove": REMOVE, "clear": CLEAR}
 TABLE_AREA = bytes([15])  # as in listing.c
 MOST_TABLE = 20480  # as in table.c
@@ -55,8 +56,9 @@ def tables() -> Iterator[bytes]:
         call = edge.call
         if any(edge.zeros) or len(call.table) > MOST_TABLE or max(len(call.name), len(call.dhcid), len(call.address), call.family) > 255:
             continue
-        step = bytes([STEP[call.word], call.policy & 1, 2, len(call.name)]) + call.name
-        if call.word != "clear":
+        name = bytes([2, len(call.name)]) + call.name
+        step = {"find": bytes([FIND]) + name, "count": bytes([COUNT])}.get(call.word) or bytes([STEP[call.word], call.policy & 1]) + name
+        if call.word in ("add", "remove"):
             step += bytes([2 | 64 | 128 | 16 | 32, len(call.dhcid)]) + call.dhcid + bytes([call.family, len(call.address)]) + call.address
         yield put_table(call.table) + step + bytes([WRITE, 0, 0, LOAD, 0])
     for edge in load_edges.read_edges():
@@ -64,8 +66,14 @@ def tables() -> Iterator[bytes]:
             yield put_table(edge.call.table) + bytes([WRITE, 1, 0, WRITE, 1, 1, LOAD, 0])
 
 
+def names() -> Iterator[bytes]:
+    for edge in name_text_edges.read_edges():
+        if not any(edge.zeros):
+            yield bytes([min(edge.call.out_len, 255)]) + edge.call.given
+
+
 if __name__ == "__main__":
     target, folder = sys.argv[1], pathlib.Path(sys.argv[2])
-    for number, seed in enumerate({"message": messages, "listing": listings, "table": tables}[target]()):
+    for number, seed in enumerate({"message": messages, "listing": listings, "table": tables, "name_text": names}[target]()):
         if len(seed) <= MOST:
             (folder / ("seed-%04d" % number)).write_bytes(seed)

@@ -4,7 +4,7 @@
 
 #include "fuzz.h"
 
-enum step { PUT, SLOT, FILL, LENGTH, ADD_STEP, REMOVE_STEP, CLEAR_STEP, WRITE_STEP, LOAD_STEP, STEPS };
+enum step { PUT, SLOT, FILL, LENGTH, ADD_STEP, REMOVE_STEP, CLEAR_STEP, WRITE_STEP, LOAD_STEP, FIND_STEP, COUNT_STEP, STEPS };
 /* a table that is longer than it should be has to have room */
 enum { MOST_CALLS = 12, MOST_TABLE = 20480 };
 
@@ -166,6 +166,30 @@ static void call_step(enum step step, const struct step_arguments *a)
     memcpy(table, plain_table, table_len);
 }
 
+/* They write nothing. */
+static void call_find(const struct bytes *name)
+{
+    uint64_t plain = table_find_plain(table, table_len, name->first, name->len);
+    count(FIND, plain);
+    for (enum way way = ENDS; way <= (table_len == 0 || name->len == 0 ? NULLS : STARTS); way++) {
+        const uint8_t *t = lend_or_null(&table_room, way, &(struct bytes){table, table_len, 0});
+        const uint8_t *n = lend_or_null(&name_room, way, name);
+        uint64_t answer = vichrelka_table_find(t, table_len, n, name->len);
+        agree("find", answer, plain, 1, is_as_lent(&table_room, 0) && is_as_lent(&name_room, 0));
+    }
+}
+
+static void call_count(void)
+{
+    uint64_t plain = table_count_plain(table, table_len);
+    count(COUNT, plain);
+    for (enum way way = ENDS; way <= (table_len == 0 ? NULLS : STARTS); way++) {
+        const uint8_t *t = lend_or_null(&table_room, way, &(struct bytes){table, table_len, 0});
+        uint64_t answer = vichrelka_table_count(t, table_len);
+        agree("count", answer, plain, 1, is_as_lent(&table_room, 0));
+    }
+}
+
 /* Into an out that is long enough; with choice 1 it is so many bytes less than just so */
 static uint64_t call_write(uint8_t choice, uint8_t less)
 {
@@ -241,6 +265,13 @@ void try_table(const uint8_t *input, size_t len)
         }
         case LOAD_STEP:
             call_load(&in);
+            break;
+        case FIND_STEP:
+            a.name = take_name(&in, a.name_bytes);
+            call_find(&a.name);
+            break;
+        case COUNT_STEP:
+            call_count();
             break;
         default: {
             uint8_t policy = take(&in);

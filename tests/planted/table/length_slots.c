@@ -19,4 +19,4 @@ static uint64_t judged(struct step *s)
     return answer;
 }
 
-PLANT_ALL(judged)
+PLANT_STEPS(judged)

@@ -13,4 +13,4 @@ static uint64_t judged(struct step *s)
     return vichrelka_refusal(ask_only(&other)) == NO_PROPER_NAME ? refused(NO_PROPER_NAME, 0) : answer;
 }
 
-PLANT_ALL(judged)
+PLANT_STEPS(judged)

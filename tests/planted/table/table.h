@@ -1,7 +1,7 @@
 /*
- * What the shims of the steps on the table of names share. A shim is a function of a step, which asks the library with the step as it is or
- * changed; PLANT_ADD, PLANT_REMOVE, PLANT_CLEAR or several of them make the calls of it. Most that take a damaged table for a sound one say only
- * how it is mended.
+ * What the shims of the calls on the table of names share. A shim is a function of a step, which asks the library with the step as it is or
+ * changed; PLANT_ADD, PLANT_REMOVE, PLANT_CLEAR, PLANT_FIND, PLANT_COUNT or several of them make the calls of it. Most that take a damaged table for
+ * a sound one say only how it is mended. A file of the three steps is also one of find or of count where another includes it behind find.h or count.h.
  */
 #ifndef TABLE_H
 #define TABLE_H
@@ -11,13 +11,18 @@
 #define right_add __real_vichrelka_table_add
 #define right_remove __real_vichrelka_table_remove
 #define right_clear __real_vichrelka_table_clear
+#define right_find __real_vichrelka_table_find
+#define right_count __real_vichrelka_table_count
 #define planted_add __wrap_vichrelka_table_add
 #define planted_remove __wrap_vichrelka_table_remove
 #define planted_clear __wrap_vichrelka_table_clear
+#define planted_find __wrap_vichrelka_table_find
+#define planted_count __wrap_vichrelka_table_count
 
 /* The parameters that the calls have, and what is handed on of them */
 #define HOLDER uint8_t *table, size_t table_len, const uint8_t *name, size_t name_len
 #define CLIENT HOLDER, const uint8_t *dhcid, size_t dhcid_len, uint32_t family, const uint8_t *address, size_t address_len
+#define ASKED const uint8_t *table, size_t table_len
 #define GIVEN_HOLDER table, table_len, name, name_len
 #define GIVEN_CLIENT GIVEN_HOLDER, dhcid, dhcid_len, family, address, address_len
 
@@ -27,6 +32,10 @@ uint64_t right_remove(CLIENT);
 uint64_t planted_remove(CLIENT);
 uint64_t right_clear(HOLDER);
 uint64_t planted_clear(HOLDER);
+uint64_t right_find(ASKED, const uint8_t *name, size_t name_len);
+uint64_t planted_find(ASKED, const uint8_t *name, size_t name_len);
+uint64_t right_count(ASKED);
+uint64_t planted_count(ASKED);
 
 enum { NAMES = 64, SLOT = 312, TABLE = NAMES * SLOT, DHCID = 35 };
 
@@ -35,7 +44,7 @@ enum { NAME_AT = 1, FLAGS_AT = 256, A_AT = 257, AAAA_AT = 261, DHCID_AT = 277 };
 
 enum { HAS_A = 1, HAS_AAAA = 2, HAS_DHCID = 4 };
 
-/* Document 01's numbers, in the order in which the steps give them */
+/* Document 01's numbers (docs/RULES.md, 7.3 to 7.5), in the order in which the steps give them */
 enum {
     UNKNOWN_SETTING = 12,
     NOT_SOUND = 40,
@@ -78,6 +87,16 @@ static inline uint64_t ask_clear(const struct step *s)
     return right_clear(s->table, s->table_len, s->name, s->name_len);
 }
 
+static inline uint64_t ask_find(const struct step *s)
+{
+    return right_find(s->table, s->table_len, s->name, s->name_len);
+}
+
+static inline uint64_t ask_count(const struct step *s)
+{
+    return right_count(s->table, s->table_len);
+}
+
 #define PLANT_ADD(answer) \
     uint64_t planted_add(CLIENT, uint32_t policy) \
     { \
@@ -99,7 +118,25 @@ static inline uint64_t ask_clear(const struct step *s)
         return answer(&s); \
     }
 
-#define PLANT_ALL(answer) PLANT_ADD(answer) PLANT_REMOVE(answer) PLANT_CLEAR(answer)
+#define PLANT_FIND(answer) \
+    uint64_t planted_find(ASKED, const uint8_t *name, size_t name_len) \
+    { \
+        struct step s = {ask_find, (uint8_t *)(uintptr_t)table, table_len, name, name_len, NULL, 0, 0, NULL, 0, 0}; \
+        return answer(&s); \
+    }
+
+#define PLANT_COUNT(answer) \
+    uint64_t planted_count(ASKED) \
+    { \
+        struct step s = {ask_count, (uint8_t *)(uintptr_t)table, table_len, NULL, 0, NULL, 0, 0, NULL, 0, 0}; \
+        return answer(&s); \
+    }
+
+/* The calls that change a table, and all calls */
+#ifndef PLANT_STEPS
+#define PLANT_STEPS(answer) PLANT_ADD(answer) PLANT_REMOVE(answer) PLANT_CLEAR(answer)
+#endif
+#define PLANT_ALL(answer) PLANT_STEPS(answer) PLANT_FIND(answer) PLANT_COUNT(answer)
 
 static inline uint64_t ask(const struct step *s)
 {
@@ -118,7 +155,7 @@ static inline uint64_t ask_only(const struct step *s)
     return ask(&other);
 }
 
-/* All calls, where the library takes the table for not sound: of a copy as `mend` leaves it, which is what the table then holds. The shims of write
+/* The steps, where the library takes the table for not sound: of a copy as `mend` leaves it, which is what the table then holds. The shims of write
    (planted/load/load.h) have this for their own call, and some of them are the same files. */
 #ifndef PLANT_MENDED
 #define PLANT_MENDED(mend) \
@@ -137,8 +174,24 @@ static inline uint64_t ask_only(const struct step *s)
             memcpy(s->table, copy, TABLE); \
         return answer; \
     } \
-    PLANT_ALL(answer_mended)
+    PLANT_STEPS(answer_mended)
 #endif
+
+/* The same for a call that changes no table: PLANT is PLANT_FIND or PLANT_COUNT. */
+#define PLANT_ASKED_MENDED(mend, PLANT) \
+    static uint64_t answer_mended(struct step *s) \
+    { \
+        static uint8_t copy[TABLE]; \
+        struct step other = *s; \
+        uint64_t answer = ask(s); \
+        if (vichrelka_refusal(answer) != NOT_SOUND || s->table_len != TABLE) \
+            return answer; \
+        memcpy(copy, s->table, TABLE); \
+        mend(copy); \
+        other.table = copy; \
+        return ask(&other); \
+    } \
+    PLANT(answer_mended)
 
 /* The same, where `mend` is called with each slot that is used. */
 #define PLANT_MENDED_SLOTS(mend) \

@@ -1,0 +1,4 @@
+/* A label may have 64 bytes. */
+#include "name_text.h"
+
+PLANT_FROM_RULES(64, 255, "", "", 0)

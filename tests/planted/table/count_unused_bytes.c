@@ -1,0 +1,4 @@
+/* As for the steps */
+#include "count.h"
+
+#include "unused_bytes.c"
