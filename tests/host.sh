@@ -1,7 +1,8 @@
 #!/usr/bin/env bash
 # The example gateway of examples/host, from C99 and again with AddressSanitizer and UBSan: the stored examples, the accident in three ways among them, then
 # damaged messages, every refusal that a command can lead to, a full table, files that are not there and lines that are no commands. What it says is compared
-# byte for byte, and its exit status. The DHCIDs of the examples are compared with those that Python makes from RFC 4701's definition.
+# byte for byte, and its exit status. The DHCIDs of the examples are compared with those that Python makes from RFC 4701's definition. The words of a refusal are the
+# header's: what is expected here has its number, and `...`.
 # Last line: `N passed, M failed`, counting comparisons.
 set -uo pipefail
 cd "$(dirname "$0")/.." || exit 2
@@ -23,9 +24,34 @@ rm -rf "$run"
 mkdir -p "$run"
 cp "$folder"/*.in "$folder"/*.hex "$folder"/*.listing "$run"
 
-# told WHAT STATUS EXPECTED [ARGUMENT]: each host, in the folder of the inputs, says what the file EXPECTED has, and exits with STATUS; commands are on standard input
+# a sed script that puts the header's words behind the number of a refusal
+cat >"$out/words.c" <<'END'
+#include <stdio.h>
+#include <string.h>
+#include <vichrelka.h>
+
+int main(void)
+{
+    unsigned number;
+    for (number = 1; number < 64; number++) {
+        const char *words = vichrelka_refusal_text(number);
+        printf("s|\\(: refused %u\\( at [0-9]*, line [0-9]*\\)\\{0,1\\}: \\).*|\\1", number);
+        for (; *words != '\0'; words++)
+            printf("%s%c", strchr("&|\\", *words) != NULL ? "\\" : "", *words);
+        printf("|\n");
+    }
+    return 0;
+}
+END
+# shellcheck disable=SC2086
+cc -std=c99 $warn -Iinclude -o "$out/words" "$out/words.c" || stop "the header's words are not to be had"
+"$out/words" >"$out/words.sed"
+
+# told WHAT STATUS EXPECTED [ARGUMENT]: each host, in the folder of the inputs, says what the file EXPECTED has, with the header's words, and exits with STATUS; commands
+# are on standard input
 told() {
-  local what_for=$1 status=$2 expected=$3 host got
+  local what_for=$1 status=$2 expected=$out/worded host got
+  sed -f "$out/words.sed" "$3" >"$expected"
   shift 3
   cat >"$out/commands"
   for host in "${hosts[@]}"; do
@@ -45,6 +71,8 @@ done
 told "commands from a file" 1 "$folder/accident-line-lost.expected" accident-line-lost.in </dev/null
 for expected in "$folder"/*.expected; do
   [ -f "${expected%.expected}.in" ] || fail "$expected has no input beside it"
+  sed -f "$out/words.sed" "$expected" >"$out/text"
+  same "the header's words (sed -i -f $out/words.sed $folder/*.expected puts them in): ${expected##*/}" "$out/text" "$expected"
 done
 (failed=0 && told "a wrong answer" 1 "$folder/day.expected" <"$folder/accident-whole.in" && exit "$failed") >"$out/wrong.log"
 is "a wrong answer is told, once for each host" "${#hosts[@]}" $?
@@ -126,33 +154,33 @@ END
 lost="no message: look whether the file is there, and has hexadecimal digits in pairs and nothing else"
 none="no address: write four numbers with dots, or eight groups of hexadecimal digits with colons"
 cat >"$out/expected" <<END
-request 4 1-short.hex 192.0.2.31: refused 1: the message is too short or too long to be a request; drop it
-request 4 1-long.hex 192.0.2.31: refused 1: the message is too short or too long to be a request; drop it
-request 4 empty.hex 192.0.2.31: refused 1: the message is too short or too long to be a request; drop it
-request 4 2-reply.hex 192.0.2.31: refused 2: the message is not a DHCPv4 client's; drop it
-request 4 3-hlen.hex 192.0.2.31: refused 3: the hardware address is longer than its field; drop the message
-request 4 4-no-end.hex 192.0.2.31: refused 4: the message's options are damaged; drop it, the client will ask again
-request 4 5-twice.hex 192.0.2.31: refused 5: an option that decides stands twice in the message; drop it
-request 4 6-overload.hex 192.0.2.31: refused 6: the message has options in other fields (option 52); set up the client without that
-request 4 7-discover.hex 192.0.2.31: refused 7: the message does not ask for a name; hand it to whatever serves the others
-request 4 8-identifier.hex 192.0.2.31: refused 8: the message does not say whose it is; give the client an identifier
-request 4 9-no-name.hex 192.0.2.31: refused 9: there is no proper name; set up the client with one, or say \`site NAME\`
+request 4 1-short.hex 192.0.2.31: refused 1: ...
+request 4 1-long.hex 192.0.2.31: refused 1: ...
+request 4 empty.hex 192.0.2.31: refused 1: ...
+request 4 2-reply.hex 192.0.2.31: refused 2: ...
+request 4 3-hlen.hex 192.0.2.31: refused 3: ...
+request 4 4-no-end.hex 192.0.2.31: refused 4: ...
+request 4 5-twice.hex 192.0.2.31: refused 5: ...
+request 4 6-overload.hex 192.0.2.31: refused 6: ...
+request 4 7-discover.hex 192.0.2.31: refused 7: ...
+request 4 8-identifier.hex 192.0.2.31: refused 8: ...
+request 4 9-no-name.hex 192.0.2.31: refused 9: ...
 request 4 odd.hex 192.0.2.31: $lost
 request 4 words.hex 192.0.2.31: $lost
 request 4 nowhere.hex 192.0.2.31: $lost
 request 4 folder.hex 192.0.2.31: $lost
-request 6 relays-9.hex 2001:db8:0:3:0:0:0:21: refused 11: more than eight relays passed the message on; look for a loop of relays
+request 6 relays-9.hex 2001:db8:0:3:0:0:0:21: refused 11: ...
 request 6 relays-8.hex 2001:db8:0:3:0:0:0:21: feed-1.bay3.example.net.: answer 0: the name was free and is now this client's
-request 5 acid-1.hex 192.0.2.31: refused 12: there is no such family; say 4 or 6
-request 44 acid-1.hex 192.0.2.31: refused 12: there is no such family; say 4 or 6
-request 6 acid-1.hex 192.0.2.31: refused 7: the message does not ask for a name; hand it to whatever serves the others
-request 4 acid-1.hex 2001:db8:0:3:0:0:0:1f: acid-1.bay3.example.net.: refused 16: the address is of the other family; give one of the message's
+request 5 acid-1.hex 192.0.2.31: refused 12: ...
+request 44 acid-1.hex 192.0.2.31: refused 12: ...
+request 6 acid-1.hex 192.0.2.31: refused 7: ...
+request 4 acid-1.hex 2001:db8:0:3:0:0:0:1f: acid-1.bay3.example.net.: refused 16: ...
 request 4 acid-1.hex 192.0.2: $none
 request 4 acid-1.hex 192.0.2.31;: $none
 request 4 acid-1.hex 2001:db8::1f: $none
 set site-name: done
-request 4 acid-1.hex 192.0.2.31: refused 9: there is no proper name; set up the client with one, or say \`site NAME\`
-release 4 9-no-name.hex 192.0.2.31: refused 9: there is no proper name; set up the client with one, or say \`site NAME\`
+request 4 acid-1.hex 192.0.2.31: refused 9: ...
+release 4 9-no-name.hex 192.0.2.31: refused 9: ...
 show: records: 2
 feed-1.bay3.example.net. AAAA 2001:0db8:0000:0003:0000:0000:0000:0021
 feed-1.bay3.example.net. DHCID $(python3 "$folder/dhcids.py" | sed -n 's/^feed-1[^ ]* //p')
@@ -178,19 +206,25 @@ for example in 20-unclosed 21-indented 22-lifetime; do
 done
 cat >"$out/expected" <<END
 load full.listing: records: 64, as many as were written
-request 4 acid-1.hex 192.0.2.31: acid-1.bay3.example.net.: refused 32: a table has room for 64 names; \`clear\` those of devices that are gone
+count: names: 64, and there is room for 0 more
+find head-1.bay3.example.net.: slot 0, kept by hand
+head-1.bay3.example.net. A 192.0.2.1
+find HEAD-64.bay3.example.net.: slot 63, kept by hand
+head-64.bay3.example.net. A 192.0.2.64
+find head-65.bay3.example.net.: refused 33: ...
+request 4 acid-1.hex 192.0.2.31: acid-1.bay3.example.net.: refused 32: ...
 load over.listing: NOT LOADED: records: 65, but 64 were written; fetch the file again, or say \`load-anyway FILE\`
-load-anyway over.listing: refused 32: a table has room for 64 names; \`clear\` those of devices that are gone
-load twice.listing: refused 35: a name has two records of one type; take out the one that does not hold
-load long.listing: refused 17 at 0, line 1: the file is longer than any listing; look whether it is one
-load 20-unclosed.listing: $(cat examples/listings/20-unclosed.expected), line 3: a byte that is not allowed, or a parenthesis that is no pair; fetch the file again
-load 21-indented.listing: $(cat examples/listings/21-indented.expected), line 3: the entry does not begin with a whole name; fetch the file again, or write the name out
-load 22-lifetime.listing: $(cat examples/listings/22-lifetime.expected), line 3: the type is missing or unknown; fetch the file again, or take the entry out
+load-anyway over.listing: refused 32: ...
+load twice.listing: refused 35: ...
+load long.listing: refused 17 at 0, line 1: ...
+load 20-unclosed.listing: $(cat examples/listings/20-unclosed.expected), line 3: ...
+load 21-indented.listing: $(cat examples/listings/21-indented.expected), line 3: ...
+load 22-lifetime.listing: $(cat examples/listings/22-lifetime.expected), line 3: ...
 load nowhere.listing: cannot be read: look whether the file is there
 load folder.hex: cannot be read: look whether the file is there
 clear head-64.bay3.example.net.: answer 0: the name is free
 request 4 acid-1.hex 192.0.2.31: acid-1.bay3.example.net.: answer 0: the name was free and is now this client's
-request 4 base-1.hex 192.0.2.32: BASE-1.bay3.example.net.: refused 32: a table has room for 64 names; \`clear\` those of devices that are gone
+request 4 base-1.hex 192.0.2.32: base-1.bay3.example.net.: refused 32: ...
 write full-again.listing: records: 65
 load full-again.listing: records: 65, as many as were written
 write nowhere/full.listing: not written: look whether the folder is there, may be written and has room
@@ -200,16 +234,36 @@ load vague.listing: records: 64, and the file does not say how many were written
 load empty.listing: records: 0, and the file does not say how many were written
 show: records: 0
 END
-told "listings, and a full table" 2 "$out/expected" < <(sed 's/: .*//' "$out/expected")
+told "listings, and a full table" 2 "$out/expected" < <(sed -n 's/: .*//p' "$out/expected")
 is "what a write leaves beside its file" "" "$(find "$run" -name '*.new')"
+
+# names with a DHCID alone, side by side and at both ends, go, the last one first; the others stay in their order
+dhcid="DHCID AAABxLmlskllE0MVjd57zHcWmEH3pCQ6VytcKD//7es/deY="
+printf '%s\n' "gone-1. $dhcid" "gone-2. $dhcid" "held. AAAA 2001:db8:0:0:0:0:0:1" "held. $dhcid" "hand. A 192.0.2.1" "gone-3. $dhcid" >"$run/released.listing"
+cat >"$out/expected" <<END
+load released.listing: records: 6, and the file does not say how many were written
+count: names: 5, and there is room for 59 more
+find held.: slot 2, held by a client
+held. AAAA 2001:0db8:0000:0000:0000:0000:0000:0001
+held. $dhcid
+clear-released: gone-3. gone-2. gone-1. names: 3
+clear-released: names: 0
+find held.: slot 0, held by a client
+held. AAAA 2001:0db8:0000:0000:0000:0000:0000:0001
+held. $dhcid
+show: records: 3
+held. AAAA 2001:0db8:0000:0000:0000:0000:0000:0001
+held. $dhcid
+hand. A 192.0.2.1
+END
+told "names that were released" 0 "$out/expected" < <(sed -n 's/: .*//p' "$out/expected")
 
 # ---- lines that are no commands
 
 wrong="no such command, or not with so many words; README.md has them all"
-improper="no proper name: write labels of letters, digits, hyphens and underscores, each with a dot after it, the last one too"
 {
   printf '\n; a comment\n \t \nfrobnicate\nrequest 4 acid-1.hex\nload a listing\nshow show show show show show show\nset nothing\n'
-  printf 'site acid-1\nclear a..b.\nclear a.(\nSHOW\n\tshow\t\nsh\0w\nshow\r\n\303\244\n'
+  printf 'site acid-1\nclear a..b.\nclear a.(\nfind .\nfind a.b.\ncount\nclear-released\nfind\ncount a.\nSHOW\n\tshow\t\nsh\0w\nshow\r\n\303\244\n'
   printf 'clear %0600d\nnew' 0
 } >"$out/text"
 cat >"$out/expected" <<END
@@ -219,9 +273,15 @@ request 4 acid-1.hex: $wrong
 load a listing: $wrong
 show show show show show: $wrong
 set nothing: no such setting: there are client-names, site-name, first-wins and latest-wins
-site acid-1: $improper
-clear a..b.: $improper
-clear a.(: $improper
+site acid-1: refused 9: ...
+clear a..b.: refused 9: ...
+clear a.(: refused 9: ...
+find .: refused 9: ...
+find a.b.: refused 33: ...
+count: names: 0, and there is room for 64 more
+clear-released: names: 0
+find: $wrong
+count a.: $wrong
 SHOW: $wrong
 show: records: 0
 sh?w: $wrong

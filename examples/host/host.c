@@ -3,7 +3,7 @@
  *
  *     host [FILE]      commands from FILE, or from standard input, a line each; README.md beside this file tells them
  *
- * It says a line for each command: what was asked, the name, the answer or the refusal and what to do.
+ * It prints a line for each command: what was asked, the name, the answer or the refusal.
  * Exit status: 0 all was accepted, 1 something was refused, 2 trouble: a command that is none, a file that cannot be read or written.
  */
 #include <vichrelka.h>
@@ -14,6 +14,8 @@
 
 enum status { ACCEPTED, REFUSED, TROUBLE };
 
+enum { HAS_DHCID = 4 }; /* of a slot's flags */
+
 struct gateway {
     uint8_t table[VICHRELKA_TABLE_LEN]; /* all zeros is the empty table */
     uint8_t site[VICHRELKA_NAME_LIMIT]; /* the name for a client without a proper one, in wire form */
@@ -21,51 +23,23 @@ struct gateway {
     uint32_t setting, policy;
 };
 
-/* What each refusal comes to here, and what to do. Those that no command leads to have no words. */
-static const char *const WORDS[] = {
-    [VICHRELKA_REFUSED_MESSAGE_LENGTH] = "the message is too short or too long to be a request; drop it",
-    [VICHRELKA_REFUSED_NOT_BOOTREQUEST] = "the message is not a DHCPv4 client's; drop it",
-    [VICHRELKA_REFUSED_HARDWARE_ADDRESS_LENGTH] = "the hardware address is longer than its field; drop the message",
-    [VICHRELKA_REFUSED_OPTIONS_MALFORMED] = "the message's options are damaged; drop it, the client will ask again",
-    [VICHRELKA_REFUSED_OPTION_REPEATED] = "an option that decides stands twice in the message; drop it",
-    [VICHRELKA_REFUSED_OPTION_OVERLOAD] = "the message has options in other fields (option 52); set up the client without that",
-    [VICHRELKA_REFUSED_NOT_A_REQUEST] = "the message does not ask for a name; hand it to whatever serves the others",
-    [VICHRELKA_REFUSED_NO_IDENTIFIER] = "the message does not say whose it is; give the client an identifier",
-    [VICHRELKA_REFUSED_NO_PROPER_NAME] = "there is no proper name; set up the client with one, or say `site NAME`",
-    [VICHRELKA_REFUSED_TOO_MANY_RELAYS] = "more than eight relays passed the message on; look for a loop of relays",
-    [VICHRELKA_REFUSED_UNKNOWN_SETTING] = "there is no such family; say 4 or 6",
-    [VICHRELKA_REFUSED_ADDRESS_LENGTH] = "the address is of the other family; give one of the message's",
-    [VICHRELKA_REFUSED_LISTING_LONG] = "the file is longer than any listing; look whether it is one",
-    [VICHRELKA_REFUSED_ENTRY_SHAPE] = "a byte that is not allowed, or a parenthesis that is no pair; fetch the file again",
-    [VICHRELKA_REFUSED_ENTRY_OWNER] = "the entry does not begin with a whole name; fetch the file again, or write the name out",
-    [VICHRELKA_REFUSED_ENTRY_TYPE] = "the type is missing or unknown; fetch the file again, or take the entry out",
-    [VICHRELKA_REFUSED_ENTRY_DATA] = "the data are not whole, or not of the type; fetch the file again, and do not take the entry out",
-    [VICHRELKA_REFUSED_HELD_BY_ANOTHER] = "another client holds the name; set up this one with its own, or `clear` the name if the device was exchanged",
-    [VICHRELKA_REFUSED_KEPT_BY_HAND] = "the name has no DHCID, so it is kept by hand; if it had one before, load a listing that has it",
-    [VICHRELKA_REFUSED_TABLE_FULL] = "a table has room for 64 names; `clear` those of devices that are gone",
-    [VICHRELKA_REFUSED_NAME_NOT_HELD] = "the name is not in the table; nothing has to be done",
-    [VICHRELKA_REFUSED_ADDRESS_DIFFERS] = "the name does not have this address; nothing has to be done",
-    [VICHRELKA_REFUSED_RECORD_REPEATED] = "a name has two records of one type; take out the one that does not hold",
-    [VICHRELKA_REFUSED_TABLE_NOT_SOUND] = "something else wrote to the table in memory; load the last listing"};
-
 static enum status say(enum status status, const char *what)
 {
     printf("%s\n", what);
     return status;
 }
 
-/* A refusal; its place is one in this text, if there is a text. */
+/* A refusal in the header's words; its place is one in this text, if there is a text. docs/REFUSALS.md has what to do. */
 static enum status refused(uint64_t answer, const uint8_t *text)
 {
     uint32_t number = vichrelka_refusal(answer), line = 1, i;
-    const char *words = number < sizeof WORDS / sizeof *WORDS ? WORDS[number] : NULL;
 
     printf("refused %u", (unsigned)number);
     for (i = 0; text != NULL && i < vichrelka_place(answer); i++)
         line += text[i] == '\n';
     if (text != NULL)
         printf(" at %u, line %u", (unsigned)vichrelka_place(answer), (unsigned)line);
-    printf(": %s\n", words != NULL ? words : "see docs/REFUSALS.md");
+    printf(": %s\n", vichrelka_refusal_text(number));
     return REFUSED;
 }
 
@@ -78,49 +52,50 @@ static enum status stepped(uint64_t answer, const char *const *words)
     return ACCEPTED;
 }
 
+/* A name that somebody typed, to wire form: its length, or 0 after the refusal was said. */
+static size_t read_name(const char *text, uint8_t *name)
+{
+    uint64_t answer = vichrelka_name_from_text((const uint8_t *)text, strlen(text), name, VICHRELKA_NAME_LIMIT);
+
+    if (vichrelka_refusal(answer) != 0)
+        refused(answer, NULL);
+    return vichrelka_value(answer);
+}
+
+/* A proper name in wire form, printed. */
+static void print_name(const uint8_t *name, size_t len)
+{
+    uint8_t text[VICHRELKA_NAME_TEXT_LIMIT];
+    size_t text_len = vichrelka_value(vichrelka_name_to_text(name, len, text, sizeof text));
+
+    printf("%.*s", (int)text_len, (const char *)text);
+}
+
 /*
- * One record, read by the library into a slot: so a name or an address that somebody typed is read by the reader that is proved, and
- * there is no second one here that could read it in another way. 0 if it is no record.
+ * An address, of a family by its look: its length, or 0. The library reads it, as the data of a record: so there is no second reader
+ * here that could read it in another way. Whether it is one of the message's family is for the library to say too.
  */
-static int read_record(const char *owner, const char *type, const char *data, uint8_t *slot)
+static size_t read_address(const char *text, uint8_t *address)
 {
     static uint8_t table[VICHRELKA_TABLE_LEN];
     char line[1024];
-    int len = snprintf(line, sizeof line, "%s %s %s", owner, type, data);
+    int is_long = strchr(text, ':') != NULL;
+    int len = snprintf(line, sizeof line, "a. %s %s", is_long ? "AAAA" : "A", text);
+    size_t address_len = is_long ? 16 : 4;
 
-    /* a listing may have comments and parentheses, a name or an address may not */
-    if (len < 0 || (size_t)len >= sizeof line || strpbrk(line, ";()") != NULL)
+    /* a listing may have comments and parentheses, an address may not */
+    if (len < 0 || (size_t)len >= sizeof line || strpbrk(text, ";()") != NULL)
         return 0;
     if (vichrelka_refusal(vichrelka_table_load(table, sizeof table, (const uint8_t *)line, (size_t)len)) != 0)
         return 0;
-    memcpy(slot, table, VICHRELKA_SLOT_LEN);
-    return 1;
+    memcpy(address, table + (is_long ? VICHRELKA_SLOT_AAAA : VICHRELKA_SLOT_A), address_len);
+    return address_len;
 }
 
-/* A name in text, to wire form: its length, or 0 after words about what is wrong. */
-static size_t read_name(const char *text, uint8_t *name)
+/* A family as it is typed; 0 for none, which the library refuses. */
+static uint32_t read_family(const char *text)
 {
-    uint8_t slot[VICHRELKA_SLOT_LEN];
-
-    if (!read_record(text, "A", "0.0.0.0", slot)) {
-        printf("no proper name: write labels of letters, digits, hyphens and underscores, each with a dot after it, the last one too\n");
-        return 0;
-    }
-    memcpy(name, slot + VICHRELKA_SLOT_NAME, VICHRELKA_NAME_LIMIT);
-    return slot[0];
-}
-
-/* An address, of a family by its look: its length, or 0. Whether it is one of the message's family is for the library to say. */
-static size_t read_address(const char *text, uint8_t *address)
-{
-    uint8_t slot[VICHRELKA_SLOT_LEN];
-    int is_long = strchr(text, ':') != NULL;
-    size_t len = is_long ? 16 : 4;
-
-    if (!read_record("a.", is_long ? "AAAA" : "A", text, slot))
-        return 0;
-    memcpy(address, slot + (is_long ? VICHRELKA_SLOT_AAAA : VICHRELKA_SLOT_A), len);
-    return len;
+    return strcmp(text, "4") == 0 ? VICHRELKA_IPV4 : strcmp(text, "6") == 0 ? VICHRELKA_IPV6 : 0;
 }
 
 /*
@@ -158,9 +133,9 @@ static enum status do_lease(struct gateway *g, char **words)
     static const char *const TAKEN[] = {"the address is gone, the name stays this client's"};
     uint8_t message[VICHRELKA_MESSAGE_LIMIT + 1]; /* one byte more, so that what is too long still is */
     uint8_t dhcid[VICHRELKA_DHCID_LEN], address[16];
-    uint32_t family = strlen(words[1]) == 1 ? (uint32_t)(words[1][0] - '0') : 0; /* the library refuses any but 4 and 6 */
+    uint32_t family = read_family(words[1]);
     size_t message_len, name_len, address_len = read_address(words[3], address);
-    const uint8_t *name, *label;
+    const uint8_t *name;
     uint64_t answer;
 
     if (!read_message(words[2], message, sizeof message, &message_len))
@@ -172,8 +147,7 @@ static enum status do_lease(struct gateway *g, char **words)
         return refused(answer, NULL);
     name = (vichrelka_name_source(answer) == VICHRELKA_SOURCE_SITE ? g->site : message) + vichrelka_name_start(answer);
     name_len = vichrelka_name_len(answer);
-    for (label = name; *label != 0; label += 1 + *label)
-        printf("%.*s.", (int)*label, (const char *)label + 1);
+    print_name(name, name_len);
     printf(": ");
     answer = vichrelka_dhcid(family, g->setting, message, message_len, g->site, g->site_len, dhcid, sizeof dhcid);
     if (vichrelka_refusal(answer) != 0)
@@ -189,7 +163,67 @@ static enum status do_clear(struct gateway *g, char **words)
     uint8_t name[VICHRELKA_NAME_LIMIT];
     size_t len = read_name(words[1], name);
 
-    return len == 0 ? TROUBLE : stepped(vichrelka_table_clear(g->table, sizeof g->table, name, len), CLEARED);
+    return len == 0 ? REFUSED : stepped(vichrelka_table_clear(g->table, sizeof g->table, name, len), CLEARED);
+}
+
+/*
+ * Takes out the names that have a DHCID and no address: their clients were released. Later names move up when one goes, so the last one
+ * comes first. The name is copied out of its slot, since the library writes to the table.
+ */
+static enum status do_clear_released(struct gateway *g, char **words)
+{
+    uint64_t answer = vichrelka_table_count(g->table, sizeof g->table);
+    uint32_t i = vichrelka_value(answer), cleared = 0;
+
+    (void)words;
+    for (; vichrelka_refusal(answer) == 0 && i > 0; i--) {
+        const uint8_t *slot = g->table + (i - 1) * VICHRELKA_SLOT_LEN;
+        uint8_t name[VICHRELKA_NAME_LIMIT], len = slot[0];
+
+        if (slot[VICHRELKA_SLOT_FLAGS] == HAS_DHCID) {
+            memcpy(name, slot + VICHRELKA_SLOT_NAME, len);
+            print_name(name, len);
+            printf(" ");
+            answer = vichrelka_table_clear(g->table, sizeof g->table, name, len);
+            cleared++;
+        }
+    }
+    if (vichrelka_refusal(answer) != 0)
+        return refused(answer, NULL);
+    printf("names: %u\n", (unsigned)cleared);
+    return ACCEPTED;
+}
+
+/* What the table has of a name. Its slot alone, with zeros behind it, is a table too, which the library writes. */
+static enum status do_find(struct gateway *g, char **words)
+{
+    static uint8_t one[VICHRELKA_TABLE_LEN], text[VICHRELKA_WRITTEN_LIMIT];
+    uint8_t name[VICHRELKA_NAME_LIMIT];
+    size_t len = read_name(words[1], name);
+    uint64_t answer;
+
+    if (len == 0)
+        return REFUSED;
+    answer = vichrelka_table_find(g->table, sizeof g->table, name, len);
+    if (vichrelka_refusal(answer) != 0)
+        return refused(answer, NULL);
+    memcpy(one, g->table + vichrelka_value(answer) * VICHRELKA_SLOT_LEN, VICHRELKA_SLOT_LEN);
+    printf("slot %u, %s\n", (unsigned)vichrelka_value(answer), one[VICHRELKA_SLOT_FLAGS] & HAS_DHCID ? "held by a client" : "kept by hand");
+    answer = vichrelka_table_write(one, sizeof one, text, sizeof text);
+    printf("%.*s", (int)vichrelka_value(answer), (const char *)text);
+    return ACCEPTED;
+}
+
+static enum status do_count(struct gateway *g, char **words)
+{
+    uint64_t answer = vichrelka_table_count(g->table, sizeof g->table);
+    unsigned names = vichrelka_value(answer);
+
+    (void)words;
+    if (vichrelka_refusal(answer) != 0)
+        return refused(answer, NULL);
+    printf("names: %u, and there is room for %u more\n", names, VICHRELKA_TABLE_NAMES - names);
+    return ACCEPTED;
 }
 
 /* An empty table, the site's name, which name a client gets, and who gets a name that another client holds. */
@@ -201,10 +235,10 @@ static enum status do_set(struct gateway *g, char **words)
         memset(g->table, 0, sizeof g->table);
     } else if (strcmp(words[0], "site") == 0) {
         if ((len = read_name(words[1], g->site)) == 0)
-            return TROUBLE;
+            return REFUSED;
         g->site_len = len;
     } else if (strcmp(words[1], "client-names") == 0 || strcmp(words[1], "site-name") == 0) {
-        g->setting = words[1][0] == 'c';
+        g->setting = words[1][0] == 'c' ? VICHRELKA_CLIENT_FIRST : VICHRELKA_SITE_ONLY;
     } else if (strcmp(words[1], "first-wins") == 0 || strcmp(words[1], "latest-wins") == 0) {
         g->policy = words[1][0] == 'f' ? VICHRELKA_FIRST_WINS : VICHRELKA_LATEST_WINS;
     } else {
@@ -294,8 +328,10 @@ static const struct command {
     const char *name;
     int words; /* with the name */
     enum status (*run)(struct gateway *, char **words);
-} COMMANDS[] = {{"request", 4, do_lease}, {"release", 4, do_lease},    {"clear", 2, do_clear}, {"write", 2, do_write}, {"show", 1, do_write},
-                {"load", 2, do_load},     {"load-anyway", 2, do_load}, {"new", 1, do_set},     {"site", 2, do_set},    {"set", 2, do_set}};
+} COMMANDS[] = {{"request", 4, do_lease}, {"release", 4, do_lease}, {"clear", 2, do_clear},     {"clear-released", 1, do_clear_released},
+                {"find", 2, do_find},     {"count", 1, do_count},   {"write", 2, do_write},     {"show", 1, do_write},
+                {"load", 2, do_load},     {"new", 1, do_set},       {"load-anyway", 2, do_load}, {"site", 2, do_set},
+                {"set", 2, do_set}};
 
 /* One line: a comment is said again, to go with the answers; of a command, what was asked and what came of it. */
 static enum status obey(struct gateway *g, char *line)
@@ -333,7 +369,7 @@ static long read_line(FILE *in, char *line, size_t room)
 
 int main(int argc, char **argv)
 {
-    static struct gateway gateway = {.setting = 1, .policy = VICHRELKA_FIRST_WINS};
+    static struct gateway gateway = {.setting = VICHRELKA_CLIENT_FIRST, .policy = VICHRELKA_FIRST_WINS};
     enum status worst = ACCEPTED, status;
     char line[512];
     long len;
