@@ -2,13 +2,14 @@
 
     python3 -B tests/picture.py CRATES FILE..    a line for each fact that does not hold; then how many facts were compared
 
-A picture is a code block of the documents. In one that is marked `layers` every word in small letters is a crate: each crate of the list stands there once, and on
-a line above all that it uses. In one that is marked `way` a line has a crate, after an arrow or at the line's beginning, and then what it does, in words; an arrow
-`->` leads there from the crate above it that stands less far to the right, which uses it, directly or through others, and an arrow `<-` the other way."""
+A picture is a code block of the documents. In one that is marked `layers` every word in small letters is a crate: each crate of the list is there once, and on
+a line above all that it uses. In one that is marked `way` a line has a crate, after an arrow or at the line's beginning, and then what it does, in words. An arrow
+`->` leads there from the crate above it that is less far to the right, which uses it, directly or through others; an arrow `<-` leads the other way."""
 
 import re
 import sys
 
+from comparison import Comparison
 from crates_list import crates_list
 
 
@@ -48,30 +49,19 @@ def pictures(path):
         yield begin, mark, block
 
 
-class Comparison:
-    def __init__(self):
-        self.facts = 0
-        self.faults = []
-
-    def fact(self, holds, words):
-        self.facts += 1
-        if not holds:
-            self.faults.append(words)
-
-
 def layers(result, where, uses, block):
     stands = {}
     for row, line in enumerate(block):
         for word in re.findall(r"[a-z]\w*", line):
             stands.setdefault(word, []).append(row)
     for word in stands:
-        result.fact(word in uses, f"{where}: {word} is no crate")
+        result.fact(word in uses, f"{where}: {word} is not a crate")
     for name in uses:
-        result.fact(len(stands.get(name, [])) == 1, f"{where}: {name} stands there {len(stands.get(name, []))} times, and not once")
+        result.fact(len(stands.get(name, [])) == 1, f"{where}: {name} is there {len(stands.get(name, []))} times, and not once")
     for name in uses:
         for other in uses[name]:
             if name in stands and other in stands:
-                result.fact(max(stands[name]) < min(stands[other]), f"{where}: {name} uses {other}, and does not stand above it")
+                result.fact(max(stands[name]) < min(stands[other]), f"{where}: {name} uses {other}, and is not above it")
 
 
 def way(result, where, uses, block):
@@ -82,10 +72,10 @@ def way(result, where, uses, block):
             continue
         found = re.match(r"([ |]*\+(->|<-) )?([a-z]\w*)(  |$)", line)
         if not found:
-            result.fact(False, f"{where}: a line that is none of a way: {line}")
+            result.fact(False, f"{where}: not a line of a way: {line}")
             continue
         column, arrow, name = found.start(3), found.group(2), found.group(3)
-        result.fact(name in uses, f"{where}: {name} is no crate")
+        result.fact(name in uses, f"{where}: {name} is not a crate")
         while above and above[-1][0] >= column:
             above.pop()
         if arrow is not None:
