@@ -4,7 +4,7 @@ The first two are as large as a listing may nearly be. All are the same at every
   long    180 records whose owners are as long as names get (255 bytes in wire form): the time goes by the byte
   short   759 records of short names, three to a name: the time goes by the record
   sixty   60 names with three records each, as the library writes them: a table that is carried from one gateway to the next
-Each kind is there 32 times, with other data and other letters in upper case. Document 01's grammar decides how they are spelled, so there is no TTL, no relative name and no `::`.
+Each kind is there 32 times, with other data and other letters in upper case. Document 01's grammar (docs/RULES.md, 6.1) decides how they are spelled, so there is no TTL, no relative name and no `::`.
 """
 import base64
 import hashlib
@@ -33,7 +33,7 @@ def long_owner(k, source):
     labels = []
     for length in (63, 63, 63, 61):
         label = "".join(LETTERS[next(source) % len(LETTERS)] for _ in range(length))
-        # no hyphen at a label's ends: document 01 allows it, but other readers need not
+        # no hyphen at a label's ends: document 01 allows it (docs/RULES.md, 3.1), but other readers need not
         labels.append(f"n{k}" + label[: length - len(f"n{k}") - 1] + "x")
     name = ".".join(labels) + "."
     assert len(name) == 254

@@ -99,7 +99,7 @@ static int wrong_texts(void)
     return wrong;
 }
 
-/* Document 01's name of five bytes, and a name without a label, which is not proper. A text without its last dot is not one. */
+/* Document 01's name of five bytes (docs/RULES.md, 3.1), and a name without a label, which is not proper. A text without its last dot is not one. */
 static int wrong_names(void)
 {
     static const uint8_t chi[] = {3, 'C', 'h', 'i', 0};

@@ -1,4 +1,4 @@
-/* The listing check, from document 01 and the RFCs that it names, in ordinary C. Nothing of crates/ was read for it.
+/* The listing check, from document 01 (docs/RULES.md, 6) and the RFCs that it names, in ordinary C. Nothing of crates/ was read for it.
  *
  * It goes another way than bench/load_plain.c: an entry becomes a line with blanks between its words, which the C library then takes apart. */
 #include <arpa/inet.h>

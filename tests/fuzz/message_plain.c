@@ -1,4 +1,4 @@
-/* The name and the DHCID of a request, from document 01 and the RFCs that it names, in ordinary C. Nothing of crates/ was read for it. */
+/* The name and the DHCID of a request, from document 01 (docs/RULES.md, 3 to 5) and the RFCs that it names, in ordinary C. Nothing of crates/ was read for it. */
 #include <stdbool.h>
 #include <string.h>
 
