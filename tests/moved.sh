@@ -189,6 +189,13 @@ sed -i 's/^use .*/use Rattle.low.specs.Form.{Entry, double}\nuse Rattle.low.sp
 "$tool" HEAD >"$out/said" 2>&1
 has "a name that means another thing" "| high/Use | \`used\` |  |  |" "$out/said"
 
+# a field is the record's own, though the file gets a constructor of its name
+git checkout -q .
+rm crates/low/specs/Other.antt
+printf '\npub data Left : Type 0 where\n  place : Left\n' >>crates/low/specs/Form.antt
+"$tool" HEAD >"$out/said" 2>&1
+has "a constructor of a field's name" "1 new, 7 as they were." "$out/said"
+
 cat >"$out/old.log" <<'END'
 rt: low proved (4 s)
 rt: high proved (10 s)
