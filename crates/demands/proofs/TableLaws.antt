@@ -9,7 +9,7 @@ use native.Mathlib.Omega.{arith}
 use lib.ListN.{length}
 use Rattle.base.specs.Bytes.{eqBytes}
 use Rattle.base.specs.Family.{KnownFamily}
-use Rattle.base.specs.Order.{Test}
+use Rattle.base.specs.Order.{Test, AllHold}
 use Rattle.base.specs.declared.Answer.{Answer}
 use Rattle.base.proofs.OrderLaws.{fault-before}
 use Rattle.base.proofs.Tests.{eqBytes-true, eq-eqBytes}
@@ -134,6 +134,21 @@ module _ (b name dhcid : List ℕ) (family : ℕ) (address : List ℕ) where
         record { number = 33; holds = Of b (Stands n) } ∷ record { number = 31; holds = Of b Hand } ∷ record { number = 30; holds = Of b (HeldBy dhcid n) }
         ∷ record { number = 34; holds = Of b Same } ∷ []
 
+    -- where the client holds the name with that address, none of them is given
+    all-removed : (s : Sound mostNames b) (c : TableEntry) (k : List ℕ) → find n (s .table) ≡ some c → c .holder ≡ some k → eqBytes k dhcid ≡ true
+        → isAddress (addressOf (familyOf family) c) address ≡ true → AllHold removals
+    unfolding Stands ByHand HeldBy
+    all-removed s c k found holder same there = (
+      holds b s (Stands n) (c, found),
+      (
+        holds b s Hand (λ h. not-by-hand n (s .table) found holder h),
+        (
+          holds b s (HeldBy dhcid n) (c, found, holder ∙ ap some (eqBytes-true k dhcid same)),
+          (holds b s Same (λ d also. ap (addressOf (familyOf family)) (one-entry n (s .table) also found) ∙ is-address (addressOf (familyOf family) c) address there), tt),
+        ),
+      ),
+    )
+
     removed : (s : Sound mostNames b) {o : StepOutcome (List ℕ)} → a ≡ o .answer → Removing eqBytes (s .table) n dhcid (familyOf family) address o → InRow a removals
     unfolding Stands ByHand HeldBy
     removed s e (Removing.not-held found o) = InRow.failed 33 (answered e o) (inl (fails b s (Stands n) (λ h. none-stands n (s .table) found (h .1)), refl))
@@ -152,17 +167,8 @@ module _ (b name dhcid : List ℕ) (family : ℕ) (address : List ℕ) where
             inr (holds b s (HeldBy dhcid n) (c, found, holder ∙ ap some (eqBytes-true k dhcid same)), inl (fails b s Same (λ f. no-address (addressOf (familyOf family) c) address elsewhere (f c found)), refl)),
           ),
         ))
-    removed s e (Removing.removed c k found holder same there o) =
-        InRow.passed 0 (answered e o) (
-          holds b s (Stands n) (c, found),
-          (
-            holds b s Hand (λ h. not-by-hand n (s .table) found holder h),
-            (
-              holds b s (HeldBy dhcid n) (c, found, holder ∙ ap some (eqBytes-true k dhcid same)),
-              (holds b s Same (λ d also. ap (addressOf (familyOf family)) (one-entry n (s .table) also found) ∙ is-address (addressOf (familyOf family) c) address there), tt),
-            ),
-          ),
-        )
+    removed s e (Removing.kept c k found holder same there more o) = InRow.passed 0 (answered e o) (all-removed s c k found holder same there)
+    removed s e (Removing.gone c k found holder same there more o) = InRow.passed 0 (answered e o) (all-removed s c k found holder same there)
 
     pub remove-in-row : Removes mostNames b name dhcid family address a left → InRow a (removeTests b name dhcid family address)
     unfolding Removes

@@ -67,7 +67,7 @@ pub record HoldsAddress (t : List TableEntry) (name dhcid : List ℕ) (family : 
 pub record RemovesAddress (t : List TableEntry) (name dhcid : List ℕ) (family : ℕ) (address : List ℕ) (a : Answer) (left : List ℕ) : Type 0 where
   pub exactly : IsAccepted a ↔ HoldsAddress t name dhcid family address
   pub sound : Sound 64 left
-  -- that address is gone, and nothing else
+  -- that address is gone, and with the last address the name; nothing else (document 02, K1)
   pub deleted : IsAccepted a → (a ≡ Accepted 0) × Deleted t (sound .table) (canonical name) dhcid (familyOf family) address
 
 pub record ClearsName (t : List TableEntry) (name : List ℕ) (a : Answer) (left : List ℕ) : Type 0 where

@@ -1,21 +1,26 @@
 // One slot of the table: the name's wire length, the name in 255 bytes, flags, A, AAAA, DHCID. What is absent is zeros. Is it well formed, and what does it hold?
 use base::dhcid::is_well_formed;
+use base::refusal::ADDRESS_DIFFERS;
+use base::refusal::HELD_BY_ANOTHER;
+use base::refusal::KEPT_BY_HAND;
 use name::wire::is_canonical;
 use octets::are_zeros_at_once;
 use octets::are_zeros_by_chunks;
 use octets::same;
 use slots::Family;
 use slots::Holding;
+use slots::Removal;
 use slots::Rtype;
 ghost use mathlib.Core.Path.{_≡_};
 ghost use Prim.Native.Nat.{_≤_};
 ghost use lib.ListN.{length, take, drop};
 ghost use Rattle.base.specs.Bytes.{eqBytes};
 ghost use Rattle.base.specs.Logic.{Decides};
-ghost use Rattle.slots.specs.Entry.{addressOf, addressSize};
+ghost use Rattle.slots.specs.Effect.{deleted, hasAddress};
+ghost use Rattle.slots.specs.Entry.{addressOf, addressSize, other};
 ghost use Rattle.slots.specs.Fields.{inField, there};
 ghost use Rattle.slots.specs.Form.{IsSlot};
-ghost use Rattle.slots.specs.Promise.{OfSlot, holding, isAddress};
+ghost use Rattle.slots.specs.Promise.{OfSlot, holding, isAddress, removal};
 ghost use Rattle.slots.specs.Promise as spec;
 ghost use Rattle.slots.specs.SlotTests as tests;
 ghost use Rattle.slots.specs.Sizes.{fieldSize, fieldAt, fieldBit, addressType, bodySize};
@@ -157,6 +162,29 @@ pub fn has(slot: &[u8], rtype: Rtype) -> bool
     is_set(field_bit(rtype), slot[FLAGS])
 }
 
+// What does a remove of this address by the client with this DHCID come to? Nothing is written.
+pub fn removal(slot: &[u8], dhcid: &[u8], family: Family, address: &[u8]) -> Removal
+    requires { ⌜ IsSlot (now slot) ⌝ }
+    ensures { λ r. ⌜ OfSlot (now (slot .entry)) (λ e. r ≡ removal (holding eqBytes (e .holder) (now (dhcid .entry))) (isAddress (addressOf family e) (now (address .entry))) (hasAddress (deleted family e))) ⌝ }
+{
+    let holder = holding(slot, dhcid);
+    match holder {
+        Holding::ByHand => Removal::Refused(KEPT_BY_HAND),
+        Holding::ByThis => {
+            if !has_address(slot, family, address) {
+                return Removal::Refused(ADDRESS_DIFFERS);
+            }
+            // what is left is the other family's address, if the name has one
+            if has(slot, address_type(other(family))) {
+                Removal::Address
+            } else {
+                Removal::Name
+            }
+        }
+        Holding::ByAnother => Removal::Refused(HELD_BY_ANOTHER),
+    }
+}
+
 // The name in a used slot.
 pub fn name_of(slot: &[u8]) -> &[u8]
     requires { ⌜ IsSlot (now slot) ⌝ }
@@ -173,6 +201,16 @@ pub fn data_from(slot: &[u8], rtype: Rtype) -> &[u8]
 {
     let from = field_offset(rtype);
     &slot[from..from + DHCID_SIZE]
+}
+
+// The other family.
+pub fn other(family: Family) -> Family
+    ensures { λ r. ⌜ r ≡ other family ⌝ }
+{
+    match family {
+        Family::V4 => Family::V6,
+        Family::V6 => Family::V4,
+    }
 }
 
 // The type of the record that has a family's address.

@@ -11,13 +11,14 @@ use slot::field_bit;
 use slot::field_offset;
 use slot::field_size;
 use slot::is_set;
+use slot::other;
 use slots::Family;
 use slots::Rtype;
 ghost use mathlib.Core.Path.{_≡_};
 ghost use Prim.Native.Nat.{_+_, _≤_};
 ghost use lib.ListN.{length, replicate, getD};
 ghost use Rattle.name.specs.Name.{canonical};
-ghost use Rattle.slots.specs.Entry.{addressSize, other};
+ghost use Rattle.slots.specs.Entry.{addressSize};
 ghost use Rattle.slots.specs.Fields.{bare, withField};
 ghost use Rattle.slots.specs.Form.{IsSlot, slotBytes};
 ghost use Rattle.slots.specs.Promise.{OfSlot, fieldPut, fieldCleared};
@@ -150,14 +151,4 @@ fn clear_field(slot: &mut [u8], bit: u8, at: usize, size: usize)
 {
     slot[FLAGS] = without_flag(bit, slot[FLAGS]);
     put_zeros(slot, at, size);
-}
-
-// The other family.
-fn other(family: Family) -> Family
-    ensures { λ r. ⌜ r ≡ other family ⌝ }
-{
-    match family {
-        Family::V4 => Family::V6,
-        Family::V6 => Family::V4,
-    }
 }

@@ -1,6 +1,6 @@
 -- What the writes of a slot leave, as the slots of entries, and what its fields say. Assumes nothing.
 use Prim.Native.Nat.{ℕ, _+_, _-_, _%_, _≤_}
-use mathlib.Core.Bool.{Bool, true, false, cond, true≢false, false≢true}
+use mathlib.Core.Bool.{Bool, true, false, cond, or-false, true≢false, false≢true}
 use mathlib.Core.Path.{_≡_, refl, sym, ap, ap₂, _∙_}
 use mathlib.Core.List.{List, [], _∷_, _++_, append-assoc}
 use mathlib.Core.Option.{Option, none, some}
@@ -12,7 +12,8 @@ use lib.Seq.{length-take-le, take-take}
 use Rattle.base.specs.Bytes.{overlay, eqBytes, padded}
 use Rattle.base.proofs.Bytes.{set-overlay}
 use Rattle.base.proofs.Tests.{by-ltb}
-use Rattle.slots.specs.Entry.{addressOf, addressSize, withAddress, withHolder}
+use Rattle.slots.specs.Effect.{deleted, hasAddress}
+use Rattle.slots.specs.Entry.{Entry, addressOf, addressSize, other, withAddress, withHolder}
 use Rattle.slots.specs.Fields.{bare, there, inField, withField}
 use Rattle.slots.specs.Form.{TableEntry, WellFormed, field, flag, flags, slotBytes, IsSlot}
 use Rattle.slots.specs.Promise.{isSet, flagSet, flagCleared, fieldPut, fieldCleared, holding, isAddress}
@@ -70,6 +71,15 @@ field-offset-most Dhcid = omega arith
 pub address-in : (f : Family) (k : Rtype) (e : TableEntry) → k ≡ addressType f → inField k e ≡ addressOf f e
 address-in V4 k e is = ap (λ (q : Rtype). inField q e) is
 address-in V6 k e is = ap (λ (q : Rtype). inField q e) is
+
+-- where one family's address is deleted, an address is left exactly if the other family's is there
+pub left-address : {H : Type 0} (f : Family) (e : Entry H) → hasAddress (deleted f e) ≡ there (addressOf (other f) e)
+left-address V4 e = refl
+left-address V6 e = or-false (there (e .a))
+
+-- and that is in the field of its type
+pub left-in : (f g : Family) (k : Rtype) (e : TableEntry) → g ≡ other f → k ≡ addressType g → there (inField k e) ≡ hasAddress (deleted f e)
+left-in f g k e is of = ap there (address-in g k e of) ∙ ap (λ (h : Family). there (addressOf h e)) is ∙ sym (left-address f e)
 
 -- ---- a slot that is being written: it need not have a flag yet
 

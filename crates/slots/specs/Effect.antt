@@ -1,8 +1,10 @@
 -- What a step does to one entry. Document 01, "Add" and "Remove" (docs/RULES.md, 7.3 and 7.4). Each is a definition of its own, for any kind of holder.
 use Prim.Native.Nat.{ℕ}
+use mathlib.Core.Bool.{Bool, _||_}
 use mathlib.Core.List.{List}
 use mathlib.Core.Option.{none, some}
 use Rattle.slots.specs.Entry.{Entry, other, withAddress, withHolder}
+use Rattle.slots.specs.Fields.{there}
 use Rattle.slots.specs.declared.Family.{Family}
 
 module _ {H : Type 0} where
@@ -18,6 +20,10 @@ module _ {H : Type 0} where
   abbrev pub takenOver : H → Family → List ℕ → Entry H → Entry H
   takenOver h f x e = withAddress f (some x) (withAddress (other f) none (withHolder h e))
 
-  -- an address is deleted; the holder stays
+  -- an address is deleted
   abbrev pub deleted : Family → Entry H → Entry H
   deleted f e = withAddress f none e
+
+  -- is an A or an AAAA there? A remove after which neither is takes the name along: document 02, K1 (docs/RULES.md, 7.4)
+  abbrev pub hasAddress : Entry H → Bool
+  hasAddress e = there (e .a) || there (e .aaaa)

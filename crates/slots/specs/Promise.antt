@@ -7,10 +7,13 @@ use mathlib.Core.Option.{Option, none, some}
 use lib.Dec.{eqb}
 use lib.ListN.{take, drop, getD, set, replicate}
 use Rattle.base.specs.Bytes.{overlay, eqBytes}
+use Rattle.base.specs.Refusal.{heldByAnother, keptByHand, addressDiffers}
 use Rattle.slots.specs.Form.{TableEntry, WellFormed, slotBytes, IsTable}
 use Rattle.slots.specs.Sizes.{slotSize, flagsAt}
 use Rattle.slots.specs.declared.Holding.{Holding}
 use Rattle.slots.specs.declared.Holding.the-variants.{ByHand, ByThis, ByAnother}
+use Rattle.slots.specs.declared.Removal.{Removal}
+use Rattle.slots.specs.declared.Removal.the-variants.{Refused, Address, Name}
 
 -- P holds of the entry whose slot is s
 abbrev pub OfSlot : List ℕ → (TableEntry → Type 0) → Type 0
@@ -61,3 +64,9 @@ holding same (some k) h = cond (same k h) ByThis ByAnother
 abbrev pub isAddress : Option (List ℕ) → List ℕ → Bool
 isAddress none x = false
 isAddress (some y) x = eqBytes y x
+
+-- what a remove comes to, by who holds the name, whether the address is there, and whether an address would be left without it
+abbrev pub removal : Holding → Bool → Bool → Removal
+removal ByHand there left = Refused keptByHand
+removal ByThis there left = cond there (cond left Address Name) (Refused addressDiffers)
+removal ByAnother there left = Refused heldByAnother

@@ -13,6 +13,14 @@ pub enum Holding {
     ByAnother,
 }
 
+// What a remove comes to at a name that stands: it is refused with this number; it deletes the address, and the name stays with its other one; or it takes the
+// name out, since no address would be left.
+pub enum Removal {
+    Refused(u32),
+    Address,
+    Name,
+}
+
 // The type of a record that a slot holds.
 pub enum Rtype {
     A,

@@ -7,12 +7,12 @@ use mathlib.Core.Option.{Option, none, some}
 use lib.Dec.{ltb, eqb}
 use lib.ListN.{length}
 use borrow.Author.Tests.{ltb-true, ltb-false, eqb-true, eqb-false}
-use Rattle.slots.specs.Effect.{entered, refreshed, takenOver, deleted}
+use Rattle.slots.specs.Effect.{entered, refreshed, takenOver, deleted, hasAddress}
 use Rattle.slots.specs.Entry.{Entry, addressOf}
 use Rattle.slots.specs.Promise.{holding, isAddress}
 use Rattle.slots.specs.declared.Family.{Family}
 use Rattle.slots.specs.declared.Holding.the-variants.{ByThis, ByAnother}
-use Rattle.table.specs.Steps.{StepOutcome, find, changed, without, refusedWith, acceptedWith, adding, addedTo, add, removing, removedFrom, remove, clearedFrom, clear}
+use Rattle.table.specs.Steps.{StepOutcome, find, changed, without, refusedWith, acceptedWith, adding, addedTo, add, removing, removed, removedFrom, remove, clearedFrom, clear}
 
 module _ {H : Type 0} (same : H → H → Bool) (t : List (Entry H)) (n : List ℕ) (h : H) (f : Family) (x : List ℕ) where
   module _ (limit policy : ℕ) where
@@ -56,20 +56,29 @@ module _ {H : Type 0} (same : H → H → Bool) (t : List (Entry H)) (n : List �
     by-hand : (e : Entry H) → find n t ≡ some e → e .holder ≡ none → o ≡ refusedWith 31 t → Removing o
     another : (e : Entry H) (k : H) → find n t ≡ some e → e .holder ≡ some k → same k h ≡ false → o ≡ refusedWith 30 t → Removing o
     differs : (e : Entry H) (k : H) → find n t ≡ some e → e .holder ≡ some k → same k h ≡ true → isAddress (addressOf f e) x ≡ false → o ≡ refusedWith 34 t → Removing o
-    removed : (e : Entry H) (k : H) → find n t ≡ some e → e .holder ≡ some k → same k h ≡ true → isAddress (addressOf f e) x ≡ true → o ≡ acceptedWith 0 (changed n (deleted f) t)
+    kept : (e : Entry H) (k : H) → find n t ≡ some e → e .holder ≡ some k → same k h ≡ true → isAddress (addressOf f e) x ≡ true → hasAddress (deleted f e) ≡ true
+        → o ≡ acceptedWith 0 (changed n (deleted f) t)
+        → Removing o
+    gone : (e : Entry H) (k : H) → find n t ≡ some e → e .holder ≡ some k → same k h ≡ true → isAddress (addressOf f e) x ≡ true → hasAddress (deleted f e) ≡ false
+        → o ≡ acceptedWith 0 (without n t)
         → Removing o
 
+  from-left : (e : Entry H) (k : H) → find n t ≡ some e → e .holder ≡ some k → same k h ≡ true → isAddress (addressOf f e) x ≡ true → (b : Bool) → hasAddress (deleted f e) ≡ b
+      → Removing (acceptedWith 0 (cond b (changed n (deleted f) t) (without n t)))
+  from-left e k found holder s a true l = Removing.kept e k found holder s a l refl
+  from-left e k found holder s a false l = Removing.gone e k found holder s a l refl
+
   from-address : (e : Entry H) (k : H) → find n t ≡ some e → e .holder ≡ some k → same k h ≡ true → (b : Bool) → isAddress (addressOf f e) x ≡ b
-      → Removing (cond b (acceptedWith 0 (changed n (deleted f) t)) (refusedWith 34 t))
-  from-address e k found holder s true a = Removing.removed e k found holder s a refl
+      → Removing (cond b (acceptedWith 0 (removed n f e t)) (refusedWith 34 t))
+  from-address e k found holder s true a = from-left e k found holder s a (hasAddress (deleted f e)) refl
   from-address e k found holder s false a = Removing.differs e k found holder s a refl
 
   from-same : (e : Entry H) (k : H) → find n t ≡ some e → e .holder ≡ some k → (b : Bool) → same k h ≡ b
-      → Removing (removing (cond b ByThis ByAnother) (isAddress (addressOf f e) x) t (changed n (deleted f) t))
+      → Removing (removing (cond b ByThis ByAnother) (isAddress (addressOf f e) x) t (removed n f e t))
   from-same e k found holder true s = from-address e k found holder s (isAddress (addressOf f e) x) refl
   from-same e k found holder false s = Removing.another e k found holder s refl
 
-  from-holder : (e : Entry H) → find n t ≡ some e → (o : Option H) → e .holder ≡ o → Removing (removing (holding same o h) (isAddress (addressOf f e) x) t (changed n (deleted f) t))
+  from-holder : (e : Entry H) → find n t ≡ some e → (o : Option H) → e .holder ≡ o → Removing (removing (holding same o h) (isAddress (addressOf f e) x) t (removed n f e t))
   from-holder e found none holder = Removing.by-hand e found holder refl
   from-holder e found (some k) holder = from-same e k found holder (same k h) refl
 

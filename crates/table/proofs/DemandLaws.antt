@@ -27,7 +27,7 @@ use Rattle.slots.specs.declared.Family.the-variants.{V4, V6}
 use Rattle.slots.proofs.Theorems.{one-table, one-sound-table}
 use Rattle.table.specs.Steps.{StepOutcome, find, changed, without, acceptedWith, add, remove, clear}
 use Rattle.table.specs.Calls.{Called, KnownPolicy}
-use Rattle.table.specs.Demand2.{others, Ordered, MayInstall, Installs, Deleted, Cleared}
+use Rattle.table.specs.Demand2.{others, Ordered, MayInstall, Installs, LeftOf, Deleted, Cleared}
 use Rattle.table.proofs.CaseLaws.{Adding, add-case, Removing, remove-case, Clearing, clear-case}
 use Rattle.table.proofs.OthersLaws.{others-changed, names-changed, find-changed, others-last, find-last, others-without, find-without}
 use Rattle.table.proofs.SoundLaws.{SoundEntries, entered-well-formed, taken-well-formed, refreshed-well-formed, deleted-well-formed, keeps-name, taken-keeps-name, sound-changed, sound-last, sound-without}
@@ -233,45 +233,6 @@ module _ (limit : ℕ) (b : List ℕ) (s : Sound limit b) (n : List ℕ) where
         outcome-is 2 (changed n (takenOver d f x) (s .table)) (rw (found, holder, ne-eqBytes k d differs, p) refl) refl
         (find-changed n (takenOver d f x) (taken-keeps-name d f x) (s .table) c found)
 
-  -- ---- remove
-
-  module _ (d : List ℕ) (f : Family) (x : List ℕ) where
-    by-removing : (o : StepOutcome (List ℕ)) → Removing eqBytes (s .table) n d f x o → Left limit n (s .table) o
-    by-removing o (Removing.not-held found e) = subst (Left limit n (s .table)) (sym e) (as-it-was (Refused 33 0))
-    by-removing o (Removing.by-hand c found holder e) = subst (Left limit n (s .table)) (sym e) (as-it-was (Refused 31 0))
-    by-removing o (Removing.another c k found holder differs e) = subst (Left limit n (s .table)) (sym e) (as-it-was (Refused 30 0))
-    by-removing o (Removing.differs c k found holder same a e) = subst (Left limit n (s .table)) (sym e) (as-it-was (Refused 34 0))
-    by-removing o (Removing.removed c k found holder same a e) =
-        subst (Left limit n (s .table)) (sym e)
-        (with-change (Accepted 0) (deleted f) (keeps-name f none)
-        (λ c′ g w. deleted-well-formed f c′ k (sym (ap (λ (y : TableEntry). y .holder) (one-found c c′ found g)) ∙ holder) w))
-
-    pub remove-leaves : Left limit n (s .table) (remove eqBytes (s .table) n d f x)
-    remove-leaves = by-removing (remove eqBytes (s .table) n d f x) (remove-case eqBytes (s .table) n d f x)
-
-    by-deleting : (o : StepOutcome (List ℕ)) → Removing eqBytes (s .table) n d f x o → (v : ℕ) → o .answer ≡ Accepted v → (v ≡ 0) × Deleted (s .table) (o .table) n d f x
-    by-deleting o (Removing.not-held found e) v a = absurd (accepted≢refused (sym a ∙ ap (λ (y : StepOutcome (List ℕ)). y .answer) e))
-    by-deleting o (Removing.by-hand c found holder e) v a = absurd (accepted≢refused (sym a ∙ ap (λ (y : StepOutcome (List ℕ)). y .answer) e))
-    by-deleting o (Removing.another c k found holder differs e) v a = absurd (accepted≢refused (sym a ∙ ap (λ (y : StepOutcome (List ℕ)). y .answer) e))
-    by-deleting o (Removing.differs c k found holder same b′ e) v a = absurd (accepted≢refused (sym a ∙ ap (λ (y : StepOutcome (List ℕ)). y .answer) e))
-    by-deleting o (Removing.removed c k found holder same b′ e) v a =
-        let table : o .table ≡ changed n (deleted f) (s .table) = ap (λ (y : StepOutcome (List ℕ)). y .table) e in (
-          accepted-value v 0 (sym a ∙ ap (λ (y : StepOutcome (List ℕ)). y .answer) e),
-          subst (λ (u : List TableEntry). Deleted (s .table) u n d f x) (sym table)
-              (record {
-                entry = c;
-                stood = found;
-                holder = holder ∙ same-holder k d same;
-                address = is-address (addressOf f c) x b′;
-                stands = find-changed n (deleted f) (keeps-name f none) (s .table) c found;
-                else-same = others-changed n (deleted f) (keeps-name f none) (s .table);
-                order = names-changed n (deleted f) (keeps-name f none) (s .table);
-              }),
-        )
-
-    pub remove-deletes : (v : ℕ) → remove eqBytes (s .table) n d f x .answer ≡ Accepted v → (v ≡ 0) × Deleted (s .table) (remove eqBytes (s .table) n d f x .table) n d f x
-    remove-deletes v a = by-deleting (remove eqBytes (s .table) n d f x) (remove-case eqBytes (s .table) n d f x) v a
-
   -- ---- clear
 
   by-clearing : (o : StepOutcome (List ℕ)) → Clearing (s .table) n o → Left limit n (s .table) o
@@ -295,6 +256,58 @@ module _ (limit : ℕ) (b : List ℕ) (s : Sound limit b) (n : List ℕ) where
   pub clear-takes : (v : ℕ) → clear (s .table) n .answer ≡ Accepted v → (v ≡ 0) × Cleared (s .table) (clear (s .table) n .table) n
   clear-takes v a = by-taking (clear (s .table) n) (clear-case (s .table) n) v a
 
+  -- ---- remove
+
+  module _ (d : List ℕ) (f : Family) (x : List ℕ) where
+    by-removing : (o : StepOutcome (List ℕ)) → Removing eqBytes (s .table) n d f x o → Left limit n (s .table) o
+    by-removing o (Removing.not-held found e) = subst (Left limit n (s .table)) (sym e) (as-it-was (Refused 33 0))
+    by-removing o (Removing.by-hand c found holder e) = subst (Left limit n (s .table)) (sym e) (as-it-was (Refused 31 0))
+    by-removing o (Removing.another c k found holder differs e) = subst (Left limit n (s .table)) (sym e) (as-it-was (Refused 30 0))
+    by-removing o (Removing.differs c k found holder same a e) = subst (Left limit n (s .table)) (sym e) (as-it-was (Refused 34 0))
+    by-removing o (Removing.kept c k found holder same a more e) =
+        subst (Left limit n (s .table)) (sym e)
+        (with-change (Accepted 0) (deleted f) (keeps-name f none)
+        (λ c′ g w. deleted-well-formed f c′ k (sym (ap (λ (y : TableEntry). y .holder) (one-found c c′ found g)) ∙ holder) w))
+    -- with the last address the name goes, as by a clear
+    by-removing o (Removing.gone c k found holder same a more e) = by-clearing o (Clearing.cleared c found e)
+
+    pub remove-leaves : Left limit n (s .table) (remove eqBytes (s .table) n d f x)
+    remove-leaves = by-removing (remove eqBytes (s .table) n d f x) (remove-case eqBytes (s .table) n d f x)
+
+    by-deleting : (o : StepOutcome (List ℕ)) → Removing eqBytes (s .table) n d f x o → (v : ℕ) → o .answer ≡ Accepted v → (v ≡ 0) × Deleted (s .table) (o .table) n d f x
+    by-deleting o (Removing.not-held found e) v a = absurd (accepted≢refused (sym a ∙ ap (λ (y : StepOutcome (List ℕ)). y .answer) e))
+    by-deleting o (Removing.by-hand c found holder e) v a = absurd (accepted≢refused (sym a ∙ ap (λ (y : StepOutcome (List ℕ)). y .answer) e))
+    by-deleting o (Removing.another c k found holder differs e) v a = absurd (accepted≢refused (sym a ∙ ap (λ (y : StepOutcome (List ℕ)). y .answer) e))
+    by-deleting o (Removing.differs c k found holder same b′ e) v a = absurd (accepted≢refused (sym a ∙ ap (λ (y : StepOutcome (List ℕ)). y .answer) e))
+    by-deleting o (Removing.kept c k found holder same b′ more e) v a =
+        let table : o .table ≡ changed n (deleted f) (s .table) = ap (λ (y : StepOutcome (List ℕ)). y .table) e in (
+          accepted-value v 0 (sym a ∙ ap (λ (y : StepOutcome (List ℕ)). y .answer) e),
+          subst (λ (u : List TableEntry). Deleted (s .table) u n d f x) (sym table)
+              (record {
+                entry = c;
+                stood = found;
+                holder = holder ∙ same-holder k d same;
+                address = is-address (addressOf f c) x b′;
+                left = LeftOf.kept more (find-changed n (deleted f) (keeps-name f none) (s .table) c found) (names-changed n (deleted f) (keeps-name f none) (s .table));
+                else-same = others-changed n (deleted f) (keeps-name f none) (s .table);
+              }),
+        )
+    by-deleting o (Removing.gone c k found holder same b′ more e) v a =
+        let taken = by-taking o (Clearing.cleared c found e) v a in (
+          taken .0,
+          record {
+            entry = c;
+            stood = found;
+            holder = holder ∙ same-holder k d same;
+            address = is-address (addressOf f c) x b′;
+            left = LeftOf.gone more (taken .1 .gone);
+            else-same = taken .1 .else-same;
+          },
+        )
+
+    pub remove-deletes : (v : ℕ) → remove eqBytes (s .table) n d f x .answer ≡ Accepted v → (v ≡ 0) × Deleted (s .table) (remove eqBytes (s .table) n d f x .table) n d f x
+    remove-deletes v a = by-deleting (remove eqBytes (s .table) n d f x) (remove-case eqBytes (s .table) n d f x) v a
+
 -- ---- refusals change nothing, and acceptance is determined
 
 module _ (t : List TableEntry) (n d : List ℕ) (f : Family) (x : List ℕ) (m at : ℕ) where
@@ -311,7 +324,8 @@ module _ (t : List TableEntry) (n d : List ℕ) (f : Family) (x : List ℕ) (m a
   remove-refused o (Removing.by-hand c found holder e) a = ap (λ (y : StepOutcome (List ℕ)). y .table) e
   remove-refused o (Removing.another c k found holder differs e) a = ap (λ (y : StepOutcome (List ℕ)). y .table) e
   remove-refused o (Removing.differs c k found holder same b′ e) a = ap (λ (y : StepOutcome (List ℕ)). y .table) e
-  remove-refused o (Removing.removed c k found holder same b′ e) a = absurd (accepted≢refused (sym (ap (λ (y : StepOutcome (List ℕ)). y .answer) e) ∙ a))
+  remove-refused o (Removing.kept c k found holder same b′ more e) a = absurd (accepted≢refused (sym (ap (λ (y : StepOutcome (List ℕ)). y .answer) e) ∙ a))
+  remove-refused o (Removing.gone c k found holder same b′ more e) a = absurd (accepted≢refused (sym (ap (λ (y : StepOutcome (List ℕ)). y .answer) e) ∙ a))
 
 pub clear-refused : (t : List TableEntry) (n : List ℕ) (m at : ℕ) (o : StepOutcome (List ℕ)) → Clearing t n o → o .answer ≡ Refused m at → o .table ≡ t
 clear-refused t n m at o (Clearing.not-held found e) a = ap (λ (y : StepOutcome (List ℕ)). y .table) e
@@ -336,7 +350,8 @@ module _ (t : List TableEntry) (n d : List ℕ) (f : Family) (x : List ℕ) (c :
     remove-accepted o (Removing.another c′ k found held differs e) = absurd (true≢false (sym (eq-eqBytes k d (this-holder c′ k found held)) ∙ differs))
     remove-accepted o (Removing.differs c′ k found held same no-such e) =
         absurd (true≢false (sym (has-address (addressOf f c′) x (ap (addressOf f) (it-is c′ found) ∙ address)) ∙ no-such))
-    remove-accepted o (Removing.removed c′ k found held same such e) = ap (λ (y : StepOutcome (List ℕ)). y .answer) e
+    remove-accepted o (Removing.kept c′ k found held same such more e) = ap (λ (y : StepOutcome (List ℕ)). y .answer) e
+    remove-accepted o (Removing.gone c′ k found held same such more e) = ap (λ (y : StepOutcome (List ℕ)). y .answer) e
 
 pub clear-accepted : (t : List TableEntry) (n : List ℕ) (c : TableEntry) → find n t ≡ some c → (o : StepOutcome (List ℕ)) → Clearing t n o → o .answer ≡ Accepted 0
 clear-accepted t n c stood o (Clearing.not-held found e) = absurd (Option·some-ne-none c (sym stood ∙ found))

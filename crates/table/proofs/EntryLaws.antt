@@ -1,4 +1,4 @@
--- What a step comes to at one entry, by who holds it. Assumes nothing.
+-- What an add comes to at one entry, by who holds it, and a remove at one slot. Assumes nothing.
 use Prim.Native.Nat.{ℕ}
 use mathlib.Core.Bool.{Bool, true, false, cond}
 use mathlib.Core.Path.{_≡_, sym, subst}
@@ -10,7 +10,8 @@ use Rattle.base.specs.declared.Answer.the-variants.{Accepted, Refused}
 use Rattle.slots.specs.Form.{TableEntry, slotBytes}
 use Rattle.slots.specs.declared.Holding.{Holding}
 use Rattle.slots.specs.declared.Holding.the-variants.{ByHand, ByThis, ByAnother}
-use Rattle.table.specs.Promise.{LeavesEntry, addedAt, removedAt}
+use Rattle.slots.specs.declared.Removal.{Removal}
+use Rattle.table.specs.Promise.{LeavesEntry, addedAt, removedAt, LeavesTable}
 
 module _ (e : TableEntry) (h : Holding) (r : Answer) (left : List ℕ) where
   module _ (policy : ℕ) (same taken : TableEntry) where
@@ -32,18 +33,7 @@ module _ (e : TableEntry) (h : Holding) (r : Answer) (left : List ℕ) where
     add-latest-wins k p a s =
         subst (λ (x : Holding). LeavesEntry (addedAt x policy e same taken) r left) (sym k) (contested-by false (ne-eqb policy 0 p) (record { answered = a; slot = s }))
 
-  module _ (there : Bool) (gone : TableEntry) where
-    pub remove-by-hand : h ≡ ByHand → r ≡ Refused 31 0 → left ≡ slotBytes e → LeavesEntry (removedAt h there e gone) r left
-    remove-by-hand k a s = subst (λ (x : Holding). LeavesEntry (removedAt x there e gone) r left) (sym k) (record { answered = a; slot = s })
-
-    pub remove-another : h ≡ ByAnother → r ≡ Refused 30 0 → left ≡ slotBytes e → LeavesEntry (removedAt h there e gone) r left
-    remove-another k a s = subst (λ (x : Holding). LeavesEntry (removedAt x there e gone) r left) (sym k) (record { answered = a; slot = s })
-
-    has-it : (b : Bool) → there ≡ b → LeavesEntry (removedAt ByThis b e gone) r left → LeavesEntry (removedAt ByThis there e gone) r left
-    has-it b p l = subst (λ (x : Bool). LeavesEntry (removedAt ByThis x e gone) r left) (sym p) l
-
-    pub remove-differs : h ≡ ByThis → there ≡ false → r ≡ Refused 34 0 → left ≡ slotBytes e → LeavesEntry (removedAt h there e gone) r left
-    remove-differs k p a s = subst (λ (x : Holding). LeavesEntry (removedAt x there e gone) r left) (sym k) (has-it false p (record { answered = a; slot = s }))
-
-    pub remove-same : h ≡ ByThis → there ≡ true → r ≡ Accepted 0 → left ≡ slotBytes gone → LeavesEntry (removedAt h there e gone) r left
-    remove-same k p a s = subst (λ (x : Holding). LeavesEntry (removedAt x there e gone) r left) (sym k) (has-it true p (record { answered = a; slot = s }))
+-- what a remove comes to at a slot is known by what the slot says of it
+module _ (b : List ℕ) (at : ℕ) (e : TableEntry) (r : Answer) (left : List ℕ) (said : Removal) where
+  pub remove-as-said : {m : Removal} → m ≡ said → r ≡ removedAt said b at e .answer → left ≡ removedAt said b at e .table → LeavesTable (removedAt m b at e) r left
+  remove-as-said k a s = subst (λ (m : Removal). LeavesTable (removedAt m b at e) r left) (sym k) (record { answered = a; table = s })

@@ -10,3 +10,4 @@ pub mod SoundLaws
 pub mod DemandLaws
 pub mod Theorems
 pub mod LookLaws
+pub mod ReturnLaws

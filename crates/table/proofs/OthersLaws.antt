@@ -125,3 +125,17 @@ module _ {H : Type 0} (n : List ℕ) where
   unfolding without find
   find-without [] d = refl
   find-without (e ∷ t) (Distinct.more apart d) = by-absent e t (eqBytes (e .name) n) refl apart (find-without t d)
+
+  -- where the name is not found, the others are all
+  by-nowhere : (e : Entry H) (t : List (Entry H)) (b : Bool) → eqBytes (e .name) n ≡ b → find n (e ∷ t) ≡ none → (find n t ≡ none → others n t ≡ t) → others n (e ∷ t) ≡ e ∷ t
+  by-nowhere e t true s found ih = absurd (Option·some-ne-none e (sym (find-same e t s) ∙ found))
+  by-nowhere e t false s found ih = others-other e t s ∙ ap (_∷_ e) (ih (sym (find-other e t s) ∙ found))
+
+  others-all : (t : List (Entry H)) → find n t ≡ none → others n t ≡ t
+  unfolding others
+  others-all [] found = refl
+  others-all (e ∷ t) found = by-nowhere e t (eqBytes (e .name) n) refl found (λ g. others-all t g)
+
+  -- so a table from which the name is gone, and nothing else, has the others and no more
+  pub gone-others : (t u : List (Entry H)) → find n u ≡ none → others n u ≡ others n t → u ≡ others n t
+  gone-others t u found same = sym (others-all u found) ∙ same

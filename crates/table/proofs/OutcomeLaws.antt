@@ -10,15 +10,15 @@ use borrow.Author.Tests.{lt-ltb, le-ltb}
 use Rattle.base.specs.Bytes.{eqBytes}
 use Rattle.base.specs.declared.Answer.{Answer}
 use Rattle.base.specs.declared.Answer.the-variants.{Accepted, Refused}
-use Rattle.slots.specs.Effect.{entered, refreshed, takenOver, deleted}
+use Rattle.slots.specs.Effect.{entered, refreshed, takenOver, deleted, hasAddress}
 use Rattle.slots.specs.Entry.{addressOf}
 use Rattle.slots.specs.Form.{TableEntry, slotBytes, tableBytes, IsTable}
-use Rattle.slots.specs.Promise.{closedUp, holding, isAddress}
+use Rattle.slots.specs.Promise.{closedUp, holding, isAddress, removal}
 use Rattle.slots.specs.declared.Family.{Family}
 use Rattle.slots.specs.declared.Holding.{Holding}
 use Rattle.slots.specs.declared.Holding.the-variants.{ByHand, ByThis, ByAnother}
 use Rattle.table.specs.Steps.{StepOutcome, find, adding, acceptedWith, refusedWith, add, removing, remove, clear}
-use Rattle.table.specs.Promise.{AtEntry, inSlot, LeavesSlot, addedAt, removedAt, Results}
+use Rattle.table.specs.Promise.{AtEntry, inSlot, LeavesSlot, addedAt, removedAt, LeavesTable, Results}
 use Rattle.table.proofs.StepLaws.{HeldAt, FreeAt, FullUp}
 
 -- the outcome o is that of a step at the entry between p and r
@@ -38,16 +38,6 @@ module _ (p r : List TableEntry) (e : TableEntry) (t : List TableEntry) (cut : t
   adding-at ByThis policy same taken s u is it = record { answer = refl; table = is }
   adding-at ByAnother policy same taken s u is it = contested-at taken u it (eqb policy 0)
 
-  differs-at : (gone : TableEntry) (u : List TableEntry) → u ≡ p ++ gone ∷ r → (b : Bool)
-      → Between p r (cond b (acceptedWith 0 u) (refusedWith 34 t)) (cond b (record { answer = Accepted 0; entry = gone }) (record { answer = Refused 34 0; entry = e }))
-  differs-at gone u is true = record { answer = refl; table = is }
-  differs-at gone u is false = record { answer = refl; table = cut }
-
-  removing-at : (h : Holding) (there : Bool) (gone : TableEntry) (u : List TableEntry) → u ≡ p ++ gone ∷ r → Between p r (removing h there t u) (removedAt h there e gone)
-  removing-at ByHand there gone u is = record { answer = refl; table = cut }
-  removing-at ByThis there gone u is = differs-at gone u is there
-  removing-at ByAnother there gone u is = record { answer = refl; table = cut }
-
 module _ (k : ℕ) (n : List ℕ) (t : List TableEntry) (b : List ℕ) (r : Answer) (left : List ℕ) where
   at-results : (at : ℕ) (h : HeldAt k n t b at) (o : StepOutcome (List ℕ)) (a : AtEntry) → Between (h .before) (h .after) o a → LeavesSlot b at a r left → Results k o r left
   at-results at h o a m l = record { answer = l .answered ∙ sym (m .answer); table = l .table ∙ h .put (a .entry) ∙ ap (tableBytes k) (sym (m .table)) }
@@ -55,6 +45,15 @@ module _ (k : ℕ) (n : List ℕ) (t : List TableEntry) (b : List ℕ) (r : Answ
   -- nothing changed
   pub unchanged-results : (num : ℕ) → IsTable k t b → r ≡ Refused num 0 → left ≡ b → Results k (refusedWith num t) r left
   unchanged-results num h a e = record { answer = a; table = e ∙ h .form }
+
+  -- a remove at the slot at an offset: with e there the bytes are those of `kept`, and without the slot those of `gone`
+  module _ (at : ℕ) (e : TableEntry) (kept gone : List TableEntry) (was : b ≡ tableBytes k t) (put : inSlot b at (slotBytes e) ≡ tableBytes k kept) (out : closedUp b at ≡ tableBytes k gone) where
+    removing-results : (h : Holding) (there more : Bool) → LeavesTable (removedAt (removal h there more) b at e) r left → Results k (removing h there t (cond more kept gone)) r left
+    removing-results ByHand there more l = record { answer = l .answered; table = l .table ∙ was }
+    removing-results ByThis true true l = record { answer = l .answered; table = l .table ∙ put }
+    removing-results ByThis true false l = record { answer = l .answered; table = l .table ∙ out }
+    removing-results ByThis false more l = record { answer = l .answered; table = l .table ∙ was }
+    removing-results ByAnother there more l = record { answer = l .answered; table = l .table ∙ was }
 
   module _ (d : List ℕ) (f : Family) (x : List ℕ) where
     module _ (policy : ℕ) where
@@ -76,13 +75,14 @@ module _ (k : ℕ) (n : List ℕ) (t : List TableEntry) (b : List ℕ) (r : Answ
       unfolding add
       add-full-results h table a e = rw (h .found, le-ltb (length t) k (h .full)) (unchanged-results 32 table a e)
 
-    pub remove-held-results : (at : ℕ) (h : HeldAt k n t b at)
-        → LeavesSlot b at (removedAt (holding eqBytes (h .entry .holder) d) (isAddress (addressOf f (h .entry)) x) (h .entry) (deleted f (h .entry))) r left → Results k (remove eqBytes t n d f x) r left
+    pub remove-held-results : (at : ℕ) (h : HeldAt k n t b at) → IsTable k t b
+        → LeavesTable (removedAt (removal (holding eqBytes (h .entry .holder) d) (isAddress (addressOf f (h .entry)) x) (hasAddress (deleted f (h .entry)))) b at (deleted f (h .entry))) r left
+        → Results k (remove eqBytes t n d f x) r left
     unfolding remove
-    remove-held-results at h l =
+    remove-held-results at h table l =
         rw (h .found)
-        (at-results at h _ _
-        (removing-at (h .before) (h .after) (h .entry) t (h .cut) (holding eqBytes (h .entry .holder) d) (isAddress (addressOf f (h .entry)) x) (deleted f (h .entry)) _ (h .change (deleted f))) l)
+        (removing-results at (deleted f (h .entry)) _ _ (table .form) (h .put (deleted f (h .entry)) ∙ ap (tableBytes k) (sym (h .change (deleted f)))) (h .out ∙ ap (tableBytes k) (sym (h .gone)))
+        (holding eqBytes (h .entry .holder) d) (isAddress (addressOf f (h .entry)) x) (hasAddress (deleted f (h .entry))) l)
 
     pub remove-none-results : find n t ≡ none → IsTable k t b → r ≡ Refused 33 0 → left ≡ b → Results k (remove eqBytes t n d f x) r left
     unfolding remove

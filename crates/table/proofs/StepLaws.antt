@@ -26,6 +26,10 @@ use Rattle.table.proofs.FoundLaws.{Standing, standing}
 pub slot-size : (at : ℕ) → at + slotSize - at ≡ slotSize
 slot-size at = omega arith
 
+-- the part that was lent is the slot
+pub lent-slot : (b : List ℕ) (at : ℕ) → take (at + slotSize - at) (drop at b) ≡ slotAt b at
+lent-slot b at = ap (λ (n : ℕ). take n (drop at b)) (slot-size at)
+
 -- the table once the part has come back
 pub put-in : (b : List ℕ) (at : ℕ) (s : List ℕ) → take at b ++ (s ++ drop (at + slotSize - at) (drop at b)) ≡ inSlot b at s
 unfolding inSlot

@@ -1,9 +1,11 @@
 -- The public theorems of `table`: what the promises of add, remove and clear say of the customer's second demand, and where the slot is that a find answers. Assumes nothing.
-use Prim.Native.Nat.{ℕ, _*_}
-use mathlib.Core.Path.{_≡_, sym, ap, subst, _∙_}
+use Prim.Native.Nat.{ℕ, _*_, _<_}
+use mathlib.Core.Bool.{false}
+use mathlib.Core.Path.{_≡_, sym, ap, ap₂, subst, _∙_}
 use mathlib.Core.Logic.{_↔_, inl, inr}
-use mathlib.Core.List.{List}
+use mathlib.Core.List.{List, [], _∷_, _++_}
 use mathlib.Core.Option.{none, some, Option·none-ne-some}
+use native.Mathlib.Omega.{arith}
 use lib.ListN.{length, take, drop}
 use Rattle.base.specs.Bytes.{eqBytes}
 use Rattle.base.specs.Family.{KnownFamily}
@@ -15,15 +17,17 @@ use Rattle.base.proofs.AnswerLaws.{accepted≢refused}
 use Rattle.base.proofs.Theorems.{one-fault, no-fault}
 use Rattle.name.specs.Name.{canonical}
 use Rattle.name.proofs.Theorems.{canonical-form}
+use Rattle.slots.specs.Effect.{entered, deleted, hasAddress}
 use Rattle.slots.specs.Entry.{familyOf, addressOf, names, position}
 use Rattle.slots.specs.Form.{TableEntry, slotBytes, tableBytes, Sound}
 use Rattle.slots.specs.Sizes.{slotSize}
 use Rattle.slots.proofs.Theorems.{one-sound-table}
-use Rattle.table.specs.Steps.{find}
+use Rattle.table.specs.Steps.{StepOutcome, find}
 use Rattle.table.specs.Calls.{KnownPolicy, nameTests, argumentTests, Adds, Removes, Clears, Finds, Counts}
 use Rattle.table.specs.Demand2.{SoundAdd, SoundRemove, SoundClear, others, Ordered, MayInstall, Installs, Installed, Deleted, Cleared}
 use Rattle.table.proofs.CaseLaws.{add-case, remove-case, clear-case}
 use Rattle.table.proofs.LookLaws.{slot-found}
+use Rattle.table.proofs.ReturnLaws.{had-sound, fewer-others, last-gone, add-unused}
 use Rattle.table.proofs.DemandLaws.{
   one-call,
   was-stepped,
@@ -175,6 +179,26 @@ module _ (limit : ℕ) (b name dhcid : List ℕ) (family : ℕ) (address : List 
       removes-if c stood holder at =
           was-stepped limit (argumentTests limit (KnownFamily family) b name dhcid family address) b _ r left h args (s .table) (s .slots) .0
           ∙ remove-accepted (s .table) (canonical name) dhcid (familyOf family) address c stood holder at _ (remove-case eqBytes (s .table) (canonical name) dhcid (familyOf family) address)
+
+    -- a returned head (document 02, K1): after an accepted remove of the name's last address an add of that name, in either case of letters, by whatever client and under either
+    -- policy, answers 0; the name then stands last, behind all the others
+    pub returned-name : (v : ℕ) → r ≡ Accepted v → (s : Sound limit b) (c : TableEntry) → find (canonical name) (s .table) ≡ some c → hasAddress (deleted (familyOf family) c) ≡ false
+        → (again client : List ℕ) (family′ : ℕ) (address′ : List ℕ) (policy : ℕ) → canonical again ≡ canonical name → SoundAdd limit left again client family′ address′ policy
+        → (q : Answer) (after : List ℕ) → Adds limit left again client family′ address′ policy q after
+        → (q ≡ Accepted 0) × (after ≡ tableBytes limit (others (canonical name) (s .table) ++ entered (canonical name) client (familyOf family′) address′ ∷ []))
+    unfolding Removes Adds
+    returned-name v e s c stood last again client family′ address′ policy same sound q after g =
+        let n = canonical name in
+        let args = had-sound limit (argumentTests limit (KnownFamily family) b name dhcid family address) b _ r left v h e in
+        let k = sound-remove s in
+        let d = last-gone c (removes-that args s v e k .1) stood last in
+        let room : length (k .table) < limit = omega (arith, ap length (d .1), fewer-others n (s .table) c stood (s .distinct), s .slots .room) in
+        let w = was-stepped limit (argumentTests limit (KnownFamily family′ × KnownPolicy policy) left again client family′ address′) left _ q after g sound (k .table) (k .slots) in
+        let o = add-unused limit (k .table) (canonical again) client (familyOf family′) address′ policy (ap (λ (m : List ℕ). find m (k .table)) same ∙ d .0) room in (
+          w .0 ∙ ap (λ (y : StepOutcome (List ℕ)). y .answer) o,
+          w .1 ∙ ap (λ (y : StepOutcome (List ℕ)). tableBytes limit (y .table)) o
+              ∙ ap₂ (λ (u : List TableEntry) (m : List ℕ). tableBytes limit (u ++ entered m client (familyOf family′) address′ ∷ [])) (d .1) same,
+        )
 
 -- ---- clear
 

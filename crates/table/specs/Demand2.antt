@@ -1,7 +1,7 @@
 -- Demand 2 of the customer, of the three steps: what an add, a remove and a clear do and no more, said of the table's entries before and after the call. Which entries a table's bytes
 -- have is determined (slots, proofs/Theorems.antt).
 use Prim.Native.Nat.{ℕ, _<_}
-use mathlib.Core.Bool.{cond}
+use mathlib.Core.Bool.{true, false, cond}
 use mathlib.Core.Path.{_≡_}
 use mathlib.Core.Logic.{_⊎_}
 use mathlib.Core.List.{List, [], _∷_, _++_}
@@ -13,7 +13,7 @@ use Rattle.base.specs.Family.{KnownFamily}
 use Rattle.base.specs.Order.{AllHold}
 use Rattle.base.specs.declared.Answer.{Answer}
 use Rattle.base.specs.declared.Answer.the-variants.{Accepted}
-use Rattle.slots.specs.Effect.{entered, refreshed, takenOver, deleted}
+use Rattle.slots.specs.Effect.{entered, refreshed, takenOver, deleted, hasAddress}
 use Rattle.slots.specs.Entry.{Entry, names, addressOf}
 use Rattle.slots.specs.Form.{TableEntry}
 use Rattle.slots.specs.declared.Family.{Family}
@@ -66,15 +66,20 @@ pub record Installed (u : List TableEntry) (n d : List ℕ) (f : Family) (x : Li
 
 -- ---- the sentence on removes and clears
 
--- from the entries t to the entries u that address was deleted, of that client, and nothing else
+-- what the entries u have of the name n, under which e stood in t: e without that address, and every name in its place; or, where neither an A nor an AAAA was
+-- left, nothing (document 02, K1; docs/RULES.md, 7.4)
+pub data LeftOf (t u : List TableEntry) (n : List ℕ) (f : Family) (e : TableEntry) : Type 0 where
+  kept : hasAddress (deleted f e) ≡ true → find n u ≡ some (deleted f e) → names u ≡ names t → LeftOf t u n f e
+  gone : hasAddress (deleted f e) ≡ false → find n u ≡ none → LeftOf t u n f e
+
+-- from the entries t to the entries u that address was deleted, of that client, with the last address the name, and nothing else
 pub record Deleted (t u : List TableEntry) (n d : List ℕ) (f : Family) (x : List ℕ) : Type 0 where
   pub entry : TableEntry
   pub stood : find n t ≡ some entry
   pub holder : entry .holder ≡ some d
   pub address : addressOf f entry ≡ some x
-  pub stands : find n u ≡ some (deleted f entry)
+  pub left : LeftOf t u n f entry
   pub else-same : others n u ≡ others n t
-  pub order : names u ≡ names t
 
 -- the name was taken out, and nothing else
 pub record Cleared (t u : List TableEntry) (n : List ℕ) : Type 0 where

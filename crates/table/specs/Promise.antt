@@ -1,19 +1,22 @@
 -- What the parts of a call promise one another.
 use Prim.Native.Nat.{ℕ, _+_, _*_}
-use mathlib.Core.Bool.{Bool, cond}
+use mathlib.Core.Bool.{cond}
 use mathlib.Core.Path.{_≡_}
 use mathlib.Core.List.{List, _++_}
 use mathlib.Core.Option.{Option, none, some}
 use lib.Dec.{eqb, ltb}
 use lib.ListN.{length, take, drop}
-use Rattle.base.specs.Refusal.{heldByAnother, keptByHand, addressDiffers}
+use Rattle.base.specs.Refusal.{heldByAnother, keptByHand}
 use Rattle.base.specs.declared.Answer.{Answer}
 use Rattle.base.specs.declared.Answer.the-variants.{Accepted, Refused}
 use Rattle.slots.specs.Entry.{position}
 use Rattle.slots.specs.Form.{TableEntry, slotBytes, tableBytes}
+use Rattle.slots.specs.Promise.{closedUp}
 use Rattle.slots.specs.Sizes.{slotSize}
 use Rattle.slots.specs.declared.Holding.{Holding}
 use Rattle.slots.specs.declared.Holding.the-variants.{ByHand, ByThis, ByAnother}
+use Rattle.slots.specs.declared.Removal.{Removal}
+use Rattle.slots.specs.declared.Removal.the-variants as removal
 use Rattle.table.specs.Steps.{StepOutcome, find}
 use Rattle.table.specs.declared.slot_for.SlotFor.{SlotFor}
 use Rattle.table.specs.declared.slot_for.SlotFor.the-variants.{Held, Free, Full}
@@ -54,11 +57,21 @@ addedAt ByHand policy e same taken = record { answer = Refused keptByHand 0; ent
 addedAt ByThis policy e same taken = record { answer = Accepted 1; entry = same }
 addedAt ByAnother policy e same taken = cond (eqb policy 0) (record { answer = Refused heldByAnother 0; entry = e }) (record { answer = Accepted 2; entry = taken })
 
--- a remove, by who holds the name e and whether it has the address, with what is left without it
-abbrev pub removedAt : Holding → Bool → TableEntry → TableEntry → AtEntry
-removedAt ByHand there e gone = record { answer = Refused keptByHand 0; entry = e }
-removedAt ByThis there e gone = cond there (record { answer = Accepted 0; entry = gone }) (record { answer = Refused addressDiffers 0; entry = e })
-removedAt ByAnother there e gone = record { answer = Refused heldByAnother 0; entry = e }
+-- what a remove comes to at the slot at an offset: the answer, and the table that is then left
+pub record AtSlot : Type 0 where
+  pub answer : Answer
+  pub table : List ℕ
+
+-- by what the slot says of it, with the entry that is left where the name stays
+abbrev pub removedAt : Removal → List ℕ → ℕ → TableEntry → AtSlot
+removedAt (removal.Refused n) b at e = record { answer = Refused n 0; table = b }
+removedAt removal.Address b at e = record { answer = Accepted 0; table = inSlot b at (slotBytes e) }
+removedAt removal.Name b at e = record { answer = Accepted 0; table = closedUp b at }
+
+-- that is what was answered and left
+pub record LeavesTable (o : AtSlot) (r : Answer) (left : List ℕ) : Type 0 where
+  pub answered : r ≡ o .answer
+  pub table : left ≡ o .table
 
 -- the answer and the bytes left are those of an outcome
 pub record Results (limit : ℕ) (o : StepOutcome (List ℕ)) (r : Answer) (left : List ℕ) : Type 0 where

@@ -12,7 +12,7 @@ use Rattle.base.specs.Refusal.{heldByAnother, keptByHand, tableFull, nameNotHel
 use Rattle.base.specs.declared.Answer.{Answer}
 use Rattle.base.specs.declared.Answer.the-variants.{Accepted, Refused}
 use Rattle.slots.specs.Entry.{Entry, addressOf}
-use Rattle.slots.specs.Effect.{entered, refreshed, takenOver, deleted}
+use Rattle.slots.specs.Effect.{entered, refreshed, takenOver, deleted, hasAddress}
 use Rattle.slots.specs.Promise.{holding, isAddress}
 use Rattle.slots.specs.declared.Family.{Family}
 use Rattle.slots.specs.declared.Holding.{Holding}
@@ -75,9 +75,14 @@ module _ {H : Type 0} where
   unfoldable pub add : ℕ → (H → H → Bool) → List (Entry H) → List ℕ → H → Family → List ℕ → ℕ → StepOutcome H
   add limit same t n h f x policy = addedTo (find n t) limit same t n h f x policy
 
+  -- what a remove leaves of the entries t, where e stands under the name: e without that address; or, if neither an A nor an AAAA is left, the name gone
+  -- (document 02, K1)
+  abbrev pub removed : List ℕ → Family → Entry H → List (Entry H) → List (Entry H)
+  removed n f e t = cond (hasAddress (deleted f e)) (changed n (deleted f) t) (without n t)
+
   abbrev pub removedFrom : Option (Entry H) → (H → H → Bool) → List (Entry H) → List ℕ → H → Family → List ℕ → StepOutcome H
   removedFrom none same t n h f x = refusedWith nameNotHeld t
-  removedFrom (some e) same t n h f x = removing (holding same (e .holder) h) (isAddress (addressOf f e) x) t (changed n (deleted f) t)
+  removedFrom (some e) same t n h f x = removing (holding same (e .holder) h) (isAddress (addressOf f e) x) t (removed n f e t)
 
   -- Remove
   unfoldable pub remove : (H → H → Bool) → List (Entry H) → List ℕ → H → Family → List ℕ → StepOutcome H

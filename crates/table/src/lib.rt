@@ -35,7 +35,8 @@ pub fn add(
     step::add(table, name, dhcid, family_of(family), address, policy)
 }
 
-// Deletes this address of the name that the client with this DHCID holds; the DHCID stays. Answers 0. Refusals: 12, 40, 9, 15, 16, 33, 31, 30, 34.
+// Deletes this address of the name that the client with this DHCID holds; with the last address the name goes, and later ones move up. Answers 0. Refusals: 12,
+// 40, 9, 15, 16, 33, 31, 30, 34.
 pub fn remove(table: &mut [u8], name: &[u8], dhcid: &[u8], family: u32, address: &[u8]) -> Answer
     ensures { λ r. ⌜ calls.Removes mostNames (now (table .entry)) (now (name .entry)) (now (dhcid .entry)) family (now (address .entry)) r (now (table .exit)) ⌝ }
 {

@@ -3,7 +3,6 @@ use crate::arguments::FIRST_WINS;
 use crate::slot_for::SlotFor;
 use crate::slot_for::slot_for;
 use base::Answer;
-use base::refusal::ADDRESS_DIFFERS;
 use base::refusal::HELD_BY_ANOTHER;
 use base::refusal::KEPT_BY_HAND;
 use base::refusal::NAME_NOT_HELD;
@@ -11,6 +10,7 @@ use base::refusal::TABLE_FULL;
 use slot_row::close_up;
 use slots::Family;
 use slots::Holding;
+use slots::Removal;
 ghost use mathlib.Core.Bool.{true};
 ghost use mathlib.Core.Path.{_≡_};
 ghost use Prim.Native.Nat.{_+_, _≤_};
@@ -21,7 +21,7 @@ ghost use Rattle.name.specs.Name.{Proper, canonical};
 ghost use Rattle.slots.specs.Effect as effect;
 ghost use Rattle.slots.specs.Entry.{addressOf, addressSize};
 ghost use Rattle.slots.specs.Form.{IsSlot, slotBytes, Sound};
-ghost use Rattle.slots.specs.Promise.{OfSlot, OfTable, holding, isAddress};
+ghost use Rattle.slots.specs.Promise.{OfSlot, OfTable, holding, isAddress, removal};
 ghost use Rattle.slots.specs.Sizes.{mostNames, slotSize};
 ghost use Rattle.table.specs.Promise as spec;
 ghost use Rattle.table.specs.Promise.{slotAt};
@@ -46,25 +46,6 @@ fn add_held(slot: &mut [u8], dhcid: &[u8], family: Family, address: &[u8], polic
             slot_change::take_over(slot, dhcid, family, address);
             Answer::Accepted(2)
         }
-    }
-}
-
-// A remove from a name that stands. The DHCID stays.
-fn remove_held(slot: &mut [u8], dhcid: &[u8], family: Family, address: &[u8]) -> Answer
-    requires { ⌜ IsSlot (now slot) ⌝ }
-    ensures { λ r. ⌜ OfSlot (now (slot .entry)) (λ e. spec.LeavesEntry (spec.removedAt (holding eqBytes (e .holder) (now (dhcid .entry))) (isAddress (addressOf family e) (now (address .entry))) e (effect.deleted family e)) r (now (slot .exit))) ⌝ }
-{
-    let holder = slot::holding(slot, dhcid);
-    match holder {
-        Holding::ByHand => Answer::refused(KEPT_BY_HAND),
-        Holding::ByThis => {
-            if !slot::has_address(slot, family, address) {
-                return Answer::refused(ADDRESS_DIFFERS);
-            }
-            slot_change::delete(slot, family);
-            Answer::Accepted(0)
-        }
-        Holding::ByAnother => Answer::refused(HELD_BY_ANOTHER),
     }
 }
 
@@ -96,10 +77,21 @@ fn enter_at(table: &mut [u8], at: usize, name: &[u8], dhcid: &[u8], family: Fami
 // A remove from the name whose slot is at `at`.
 fn remove_at(table: &mut [u8], at: usize, dhcid: &[u8], family: Family, address: &[u8]) -> Answer
     requires { ⌜ (at + slotSize ≤ length (now table)) × (IsSlot (slotAt (now table) at)) ⌝ }
-    ensures { λ r. ⌜ OfSlot (slotAt (now (table .entry)) at) (λ e. spec.LeavesSlot (now (table .entry)) at (spec.removedAt (holding eqBytes (e .holder) (now (dhcid .entry))) (isAddress (addressOf family e) (now (address .entry))) e (effect.deleted family e)) r (now (table .exit))) ⌝ }
+    ensures { λ r. ⌜ OfSlot (slotAt (now (table .entry)) at) (λ e. spec.LeavesTable (spec.removedAt (removal (holding eqBytes (e .holder) (now (dhcid .entry))) (isAddress (addressOf family e) (now (address .entry))) (effect.hasAddress (effect.deleted family e))) (now (table .entry)) at (effect.deleted family e)) r (now (table .exit))) ⌝ }
 {
     let end = at + slot::SIZE;
-    remove_held(&mut table[at..end], dhcid, family, address)
+    let removal = slot::removal(&table[at..end], dhcid, family, address);
+    match removal {
+        Removal::Refused(number) => Answer::refused(number),
+        Removal::Address => {
+            slot_change::delete(&mut table[at..end], family);
+            Answer::Accepted(0)
+        }
+        Removal::Name => {
+            slot_row::close_up(table, at);
+            Answer::Accepted(0)
+        }
+    }
 }
 
 // The step of an add: to a name that stands, or to a new one.

@@ -1,11 +1,11 @@
 // Every answer and every refusal of the table's steps. Each line of the input is a label and a call: a, r or c for add, remove or clear, the client, the family,
 // the policy, the state of the table, the name and the address in hexadecimal. Client 12 has the DHCID of type 1 and 32 bytes 22; one of type 3 has none. State
 // ! is a table whose last byte is 1 for this call, < one without its last byte. A label with no call adds the names 00 to 62. The table holds at first the name h,
-// kept by hand. Each line of the output is the label and the answer; what it must be, in the file `stdout`, was written from document 01 ("Refusal numbers", "The
-// table", the last of "Slips we have seen"; docs/RULES.md, 2.2, 7 and 9) before this program first ran. "12 before 40" has both faults, and all the
-// later ones of the arguments too. After an accepted call come the used slots: the name, the flags (1 for an A, 2 for an AAAA, 4 for a DHCID), A,
-// AAAA and the first bytes of the DHCID, where - is zeros alone; of a long table the slots from the fourth to the 62nd are a dot each. After a
-// refused one all bytes are compared with those before it.
+// kept by hand, and the name g with a DHCID alone. Each line of the output is the label and the answer; what it must be, in the file `stdout`, was written before
+// this program first ran from document 01 ("Refusal numbers", "The table", the last of "Slips we have seen"; docs/RULES.md, 2.2, 7 and 9), and what a remove
+// leaves from document 02, K1 (docs/RULES.md, 7.4), before the code had that rule. "12 before 40" has both faults, and all the later ones of the arguments too.
+// After an accepted call come the used slots: the name, the flags (1 for an A, 2 for an AAAA, 4 for a DHCID), A, AAAA and the first bytes of the DHCID, where -
+// is zeros alone; of a long table the slots from the fourth to the 62nd are a dot each. After a refused one all bytes are compared with those before it.
 use base::Answer;
 use base::slice::put;
 use check::same;
@@ -242,12 +242,15 @@ fn run_all(text: &[u8], table: &mut [u8]) {
     }
 }
 
-// The name h with an A alone, 192.0.2.9: no call makes such a name.
+// The name h with an A alone, 192.0.2.9, and the name g with the DHCID of the client 00 alone, whose digest is zeros: no call makes such names.
 fn keep_by_hand(table: &mut [u8])
     requires { ⌜ length (now table) ≡ 19968 ⌝ }
 {
     put(table, 0, b"\x03\x01h\x00");
     put(table, 256, b"\x01\xc0\x00\x02\x09");
+    put(table, 312, b"\x03\x01g\x00");
+    put(table, 568, b"\x04");
+    put(table, 591, b"\x01");
 }
 
 fn main() {

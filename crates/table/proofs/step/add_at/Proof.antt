@@ -1,6 +1,5 @@
 use mathlib.Core.Path.{refl, ap, _∙_}
-use lib.ListN.{take, drop}
-use Rattle.table.proofs.StepLaws.{slot-size, leaves-slot}
+use Rattle.table.proofs.StepLaws.{slot-size, lent-slot, leaves-slot}
 use borrow.Author.Needs.{needs}
 use Rattle.table.proofs.step.add_at.Statement.{statement}
 use Rattle.table.proofs.step.add_at.Tie as tie
@@ -26,7 +25,7 @@ same-length c = search needs
 returns : tie.Need-returns
 returns c = λ e w form.
     let a = c .before .before .before .before .before .before .before in
-    leaves-slot (a .args .table .now) (a .args .at) _ _ _ _ refl (c .before .before .add-held .ensures e w (ap (λ n. take n (drop (a .args .at) (a .args .table .now))) (slot-size (a .args .at)) ∙ form))
+    leaves-slot (a .args .table .now) (a .args .at) _ _ _ _ refl (c .before .before .add-held .ensures e w (lent-slot (a .args .table .now) (a .args .at) ∙ form))
 
 pub add-at-spec : {M : Type 1} → statement M
 add-at-spec =

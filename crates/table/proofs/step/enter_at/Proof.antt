@@ -1,7 +1,6 @@
 use mathlib.Core.Path.{ap, _∙_}
-use lib.ListN.{take, drop}
 use Rattle.table.specs.Promise.{inSlot}
-use Rattle.table.proofs.StepLaws.{slot-size, put-in}
+use Rattle.table.proofs.StepLaws.{lent-slot, put-in}
 use borrow.Author.Needs.{needs}
 use Rattle.table.proofs.step.enter_at.Statement.{statement}
 use Rattle.table.proofs.step.enter_at.Tie as tie
@@ -19,7 +18,7 @@ part-enter-end : tie.Need-part-enter-end
 part-enter-end c = search needs
 
 enter-requires : tie.Need-enter-requires
-enter-requires c κs = let a = c .before .before .before .before .before in (ap (λ n. take n (drop (a .args .at) (a .args .table .now))) (slot-size (a .args .at)) ∙ a .pre .1, a .pre .2, a .pre .3, a .pre .4)
+enter-requires c κs = let a = c .before .before .before .before .before in (lent-slot (a .args .table .now) (a .args .at) ∙ a .pre .1, a .pre .2, a .pre .3, a .pre .4)
 
 same-length : tie.Need-same-length
 same-length c = search needs

@@ -40,7 +40,7 @@ returns : tie.Need-returns
 returns c = λ t h.
     let p = c .before .before .before .before .before in
     let held = held-at mostNames _ t _ h _ (sym (p .slot .given .1) ∙ p .before .before .slot-for .ensures t h) in
-    remove-held-results mostNames _ t _ _ _ _ _ _ _ held (c .before .before .remove-at .ensures (held .entry) (held .well-formed) (held .slot))
+    remove-held-results mostNames _ t _ _ _ _ _ _ _ held h (c .before .before .remove-at .ensures (held .entry) (held .well-formed) (held .slot))
 
 same-length-2 : tie.Need-same-length-2
 same-length-2 c = search needs
