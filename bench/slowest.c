@@ -156,6 +156,13 @@ static uint64_t remove_call(const struct input *in)
     return vichrelka_table_remove(table, sizeof table, in->bytes.at, in->bytes.len, DHCID, sizeof DHCID, VICHRELKA_IPV4, ADDRESS, 4);
 }
 
+/* accepted: the AAAA is the only address, so the name goes; the table is put back first, as for a clear */
+static uint64_t remove_name_call(const struct input *in)
+{
+    memcpy(table, area, sizeof table);
+    return vichrelka_table_remove(table, sizeof table, in->bytes.at, in->bytes.len, DHCID, sizeof DHCID, VICHRELKA_IPV6, ADDRESS, sizeof ADDRESS);
+}
+
 /* the table is put back first, which takes less than a hundredth of the time */
 static uint64_t clear_call(const struct input *in)
 {
@@ -460,7 +467,7 @@ static void loads(void)
     say("vichrelka_table_load");
 }
 
-/* Steps on a full table: on its last name, which a search comes to last; a clear on its first, behind which all others move up */
+/* Steps on a full table: on its last name, which a search comes to last; a clear on its first, behind which all others move up; a remove on both */
 
 static void begin_step(const char *what, const char *(*text)(int), int records, int index)
 {
@@ -479,6 +486,30 @@ static void steps(const char *what, call_fn *call, uint64_t want, int records)
     begin_step("64 names of 254 bytes, 125 labels and one in which they differ", short_labels, records, VICHRELKA_TABLE_NAMES - 1);
     try(call, &in, want);
     say(what);
+}
+
+static void removes(void)
+{
+    static const struct {
+        const char *refused, *last, *first;
+        const char *(*text)(int);
+    } KINDS[] = {
+        {"64 names of 255 bytes that differ in the last two; the last one has another address (34)",
+         "64 names of 255 bytes that differ in the last two; the last one goes with its only address",
+         "64 names of 255 bytes that differ in the last two; the first goes with its only address", long_labels},
+        {"64 names of 254 bytes, 125 labels and one in which they differ; the last one has another address (34)",
+         "64 names of 254 bytes, 125 labels and one in which they differ; the last one goes with its only address",
+         "64 names of 254 bytes, 125 labels and one in which they differ; the first goes with its only address", short_labels},
+    };
+    for (size_t k = 0; k < sizeof KINDS / sizeof KINDS[0]; k++) {
+        begin_step(KINDS[k].refused, KINDS[k].text, 2, VICHRELKA_TABLE_NAMES - 1);
+        try(remove_call, &in, VICHRELKA_REFUSED_ADDRESS_DIFFERS);
+        begin_step(KINDS[k].last, KINDS[k].text, 2, VICHRELKA_TABLE_NAMES - 1);
+        try(remove_name_call, &in, 0);
+        begin_step(KINDS[k].first, KINDS[k].text, 2, 0);
+        try(remove_name_call, &in, 0);
+    }
+    say("vichrelka_table_remove");
 }
 
 static void clears(void)
@@ -508,7 +539,7 @@ int main(int argc, char **argv)
     names("vichrelka_name_to_text", to_text_call, true);
     checks();
     steps("vichrelka_table_add", add_call, accepted(1), 2);
-    steps("vichrelka_table_remove", remove_call, VICHRELKA_REFUSED_ADDRESS_DIFFERS, 2);
+    removes();
     clears();
     steps("vichrelka_table_find", find_call, accepted(VICHRELKA_TABLE_NAMES - 1), 2);
     steps("vichrelka_table_count", count_call, accepted(VICHRELKA_TABLE_NAMES), 2);

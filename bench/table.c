@@ -39,9 +39,11 @@ struct step {
     uint64_t want;
 };
 
-/* `units` is how many times the list does what the case's line gives the time of, `calls` how many calls a round has at least */
+/* `table` is what the list begins with and leaves, `units` how many times it does what the case's line gives the time of, `calls` how many calls a round
+   has at least */
 struct list {
     const char *kind, *what;
+    const uint8_t *table;
     int len, units, calls;
     struct step steps[2 * NAMES];
 };
@@ -86,9 +88,10 @@ static struct kind {
     bool three_records; /* both addresses; written and loaded */
     struct entry entries[NAMES], others[NAMES];
     uint8_t table[VICHRELKA_TABLE_LEN];
+    uint8_t both[VICHRELKA_TABLE_LEN]; /* the same, but the last name has both addresses */
     struct listing listing;
     int cases;
-    struct list lists[5];
+    struct list lists[7];
 } kinds[] = {
     /* a clear empties it, and the add after it meets an empty table */
     {.what = "one name", .write = ordinary, .count = 1},
@@ -183,6 +186,7 @@ static struct list *new_case(struct kind *k, const char *what, int units)
     struct list *l = &k->lists[k->cases++];
     l->kind = k->what;
     l->what = what;
+    l->table = k->table;
     l->units = units;
     l->calls = k->count == 1 ? CALLS_ONE : CALLS_FULL;
     return l;
@@ -241,6 +245,23 @@ static void make_listing_cases(struct kind *k)
     }
 }
 
+/* The last name is taken out, by a clear or with its only address, and put again. */
+static void make_out_and_in(struct kind *k, int call, const char *what, const char *what_first)
+{
+    struct list *l = new_case(k, what, 1);
+    append(l, call, &k->entries[k->count - 1], accepted(0));
+    append(l, ADD, &k->entries[k->count - 1], accepted(0));
+
+    if (k->count == 1)
+        return;
+    /* Behind the last name nothing moves up. Here each name is the first in its turn, and after all of them the order is as before. */
+    l = new_case(k, what_first, k->count);
+    for (int i = 0; i < k->count; i++) {
+        append(l, call, &k->entries[i], accepted(0));
+        append(l, ADD, &k->entries[i], accepted(0));
+    }
+}
+
 /* The call's name is the last one, which a search comes to last. */
 static void make_cases(struct kind *k)
 {
@@ -255,22 +276,14 @@ static void make_cases(struct kind *k)
     l = new_case(k, "add, refused (30)", 1);
     append(l, ADD_BY_ANOTHER, last, refuse(VICHRELKA_REFUSED_HELD_BY_ANOTHER));
 
+    /* the other address is left, so that the name stays */
     l = new_case(k, "remove and add, the pair", 1);
+    l->table = k->both;
     append(l, REMOVE, last, accepted(0));
     append(l, ADD, last, accepted(1));
 
-    l = new_case(k, "clear and add, the pair", 1);
-    append(l, CLEAR, last, accepted(0));
-    append(l, ADD, last, accepted(0));
-
-    if (k->count == 1)
-        return;
-    /* Behind the last name nothing moves up. Here each name is the first in its turn, and after all of them the order is as before. */
-    l = new_case(k, "the same of the first name", k->count);
-    for (int i = 0; i < k->count; i++) {
-        append(l, CLEAR, &k->entries[i], accepted(0));
-        append(l, ADD, &k->entries[i], accepted(0));
-    }
+    make_out_and_in(k, CLEAR, "clear and add, the pair", "the same of the first name");
+    make_out_and_in(k, REMOVE, "remove of a name, and add", "remove of the first name, and add");
 }
 
 /* Answers and tables */
@@ -288,9 +301,16 @@ static void call_right(const struct list *l, int i, int c)
         stop_at(l, i, contestants[c].name, "another answer than is due");
 }
 
+static void set_tables(const uint8_t *table)
+{
+    for (int c = 0; c < CONTESTANTS; c++)
+        memcpy(tables[c], table, sizeof tables[c]);
+}
+
 /* Both contestants go through the list, and after each call have the answer that is due, the same table and the same listing. */
 static void compare(const struct list *l)
 {
+    set_tables(l->table);
     for (int i = 0; i < l->len; i++) {
         for (int c = 0; c < CONTESTANTS; c++)
             call_right(l, i, c);
@@ -301,29 +321,31 @@ static void compare(const struct list *l)
     }
 }
 
-static void as_before(const struct kind *k, const struct list *l)
+static void as_before(const struct list *l)
 {
     for (int c = 0; c < CONTESTANTS; c++)
-        if (memcmp(tables[c], k->table, sizeof k->table) != 0)
+        if (memcmp(tables[c], l->table, sizeof tables[c]) != 0)
             stop_at(l, l->len - 1, contestants[c].name, "the table is not as before");
 }
 
-/* The table of a kind comes of adds, which are compared as well, and its listing from plain C. */
+/* The tables of a kind come of adds, which are compared as well, and its listing from plain C. */
 static void fill(struct kind *k)
 {
-    struct list l = {.kind = k->what, .what = "fill"};
+    static const uint8_t EMPTY[VICHRELKA_TABLE_LEN];
+    struct list l = {.kind = k->what, .what = "fill", .table = EMPTY}, second = {.kind = k->what, .what = "second address", .table = k->table};
     for (int i = 0; i < k->count; i++) {
         make_entry(&k->entries[i], k->write, i, i % 2 ? 6 : 4);
+        make_entry(&k->others[i], k->write, i, i % 2 ? 4 : 6);
         append(&l, ADD, &k->entries[i], accepted(0));
-        /* not for the other kinds: an add after a clear would not bring a second address back */
-        if (k->three_records) {
-            make_entry(&k->others[i], k->write, i, i % 2 ? 4 : 6);
+        /* not for the other kinds: an add of a name that was taken out would not bring a second address back */
+        if (k->three_records)
             append(&l, ADD, &k->others[i], accepted(1));
-        }
     }
-    memset(tables, 0, sizeof tables);
     compare(&l);
     memcpy(k->table, tables[PLAIN], sizeof k->table);
+    append(&second, ADD, &k->others[k->count - 1], accepted(1));
+    compare(&second);
+    memcpy(k->both, tables[PLAIN], sizeof k->both);
     k->listing.len = vichrelka_value(table_write_plain(k->table, sizeof k->table, k->listing.text, sizeof k->listing.text));
 }
 
@@ -342,17 +364,16 @@ static void pass(const void *given)
         call_right(t->list, i, t->contestant);
 }
 
-static void measure(const struct kind *k, const struct list *l)
+static void measure(const struct list *l)
 {
     double best[CONTESTANTS] = {1e9, 1e9}, began = cpu_seconds();
     int passes = l->len < l->calls ? l->calls / l->len : 1;
-    for (int c = 0; c < CONTESTANTS; c++)
-        memcpy(tables[c], k->table, sizeof k->table);
+    set_tables(l->table);
     /* in turns, so that what else the machine does meets both */
     for (int round = 0; round < ROUNDS_LEAST || (round < ROUNDS && cpu_seconds() - began < SECONDS); round++) {
         for (int c = 0; c < CONTESTANTS; c++)
             time_passes(pass, &(struct turn){l, c}, passes, &best[c]);
-        as_before(k, l);
+        as_before(l);
     }
     char what[128];
     snprintf(what, sizeof what, "%s: %s", l->kind, l->what);
@@ -367,11 +388,11 @@ int main(void)
         make_cases(k);
         for (int i = 0; i < k->cases; i++) {
             compare(&k->lists[i]);
-            as_before(k, &k->lists[i]);
+            as_before(&k->lists[i]);
         }
     }
     for (struct kind *k = kinds; k < kinds + KINDS; k++)
         for (int i = 0; i < k->cases; i++)
-            measure(k, &k->lists[i]);
+            measure(&k->lists[i]);
     return 0;
 }

@@ -163,6 +163,14 @@ uint64_t table_add_plain(uint8_t *table, size_t table_len, const uint8_t *name, 
     return accepted(2);
 }
 
+/* A slot of so many that are used; later ones move up */
+static void take_out(struct slot *slots, int count, struct slot *s)
+{
+    struct slot *last = &slots[count - 1];
+    memmove(s, s + 1, (size_t)(last - s) * sizeof *s);
+    memset(last, 0, sizeof *last);
+}
+
 uint64_t table_remove_plain(uint8_t *table, size_t table_len, const uint8_t *name, size_t name_len, const uint8_t *dhcid, size_t dhcid_len,
                             uint32_t family, const uint8_t *address, size_t address_len)
 {
@@ -186,6 +194,9 @@ uint64_t table_remove_plain(uint8_t *table, size_t table_len, const uint8_t *nam
         return refuse(VICHRELKA_REFUSED_ADDRESS_DIFFERS);
     memset(address_of(s, family), 0, address_len);
     s->flags &= (uint8_t)~address_flag(family);
+    /* the DHCID goes with the last address, and so the name (RFC 4703, section 5.5) */
+    if (s->flags == HAS_DHCID)
+        take_out(slots, count, s);
     return 0;
 }
 
@@ -202,9 +213,7 @@ uint64_t table_clear_plain(uint8_t *table, size_t table_len, const uint8_t *name
     struct slot *s = find(slots, count, &key);
     if (!s)
         return refuse(VICHRELKA_REFUSED_NAME_NOT_HELD);
-    struct slot *last = &slots[count - 1];
-    memmove(s, s + 1, (size_t)(last - s) * sizeof *s);
-    memset(last, 0, sizeof *last);
+    take_out(slots, count, s);
     return 0;
 }
 

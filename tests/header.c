@@ -139,7 +139,7 @@ static int wrong_requests(void)
 static int wrong_tables(void)
 {
     static uint8_t table[VICHRELKA_TABLE_LEN];
-    static const uint8_t name[] = {1, 'A', 0}, address[] = {192, 0, 2, 7};
+    static const uint8_t name[] = {1, 'A', 0}, address[] = {192, 0, 2, 7}, address6[16] = {0x20, 1, 0xd, 0xb8};
     static const uint8_t client[VICHRELKA_DHCID_LEN] = {0, 1, 1}, another[VICHRELKA_DHCID_LEN] = {0, 2, 1};
     int wrong = 0;
 
@@ -149,9 +149,16 @@ static int wrong_tables(void)
     wrong |= vichrelka_refusal(vichrelka_table_add(table, sizeof table, name, 3, another, sizeof another, 4, address, 4, VICHRELKA_FIRST_WINS))
              != VICHRELKA_REFUSED_HELD_BY_ANOTHER;
     wrong |= vichrelka_table_add(table, sizeof table, name, 3, another, sizeof another, 4, address, 4, VICHRELKA_LATEST_WINS) != (uint64_t)2 << 32;
-    wrong |= vichrelka_table_remove(table, sizeof table, name, 3, another, sizeof another, 4, address, 4) != 0 || table[256] != 4;
+    wrong |= vichrelka_table_add(table, sizeof table, name, 3, another, sizeof another, 6, address6, 16, VICHRELKA_FIRST_WINS) != (uint64_t)1 << 32;
+    wrong |= vichrelka_table_remove(table, sizeof table, name, 3, another, sizeof another, 4, address, 4) != 0 || table[256] != 6;
     wrong |= vichrelka_refusal(vichrelka_table_remove(table, sizeof table, name, 3, another, sizeof another, 4, address, 4))
              != VICHRELKA_REFUSED_ADDRESS_DIFFERS;
+    /* document 02, K1: the name goes with its last address, and another client gets it */
+    wrong |= vichrelka_table_remove(table, sizeof table, name, 3, another, sizeof another, 6, address6, 16) != 0;
+    wrong |= table[0] != 0 || table[2] != 0 || table[256] != 0 || table[278] != 0;
+    wrong |= vichrelka_refusal(vichrelka_table_remove(table, sizeof table, name, 3, another, sizeof another, 6, address6, 16))
+             != VICHRELKA_REFUSED_NAME_NOT_HELD;
+    wrong |= vichrelka_table_add(table, sizeof table, name, 3, client, sizeof client, 4, address, 4, VICHRELKA_FIRST_WINS) != 0;
     wrong |= vichrelka_table_clear(table, sizeof table, name, 3) != 0 || table[0] != 0 || table[278] != 0;
     wrong |= vichrelka_refusal(vichrelka_table_clear(table, sizeof table, name, 3)) != VICHRELKA_REFUSED_NAME_NOT_HELD;
     wrong |= vichrelka_refusal(vichrelka_table_clear(NULL, 0, name, 3)) != VICHRELKA_REFUSED_TABLE_NOT_SOUND;

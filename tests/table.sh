@@ -8,5 +8,5 @@ cd "$(dirname "$0")/.."
 begin table
 # shellcheck disable=SC2119
 build
-compare 36000
+compare 37500
 finish

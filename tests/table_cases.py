@@ -140,6 +140,11 @@ class State(NamedTuple):
         places = [at for at, slot in enumerate(self.slots) if bool(slot.dhcid) == has_dhcid]
         return rng.choice(places) if places else None
 
+    def pick_held(self, rng: random.Random, addresses: int) -> Optional[int]:
+        """A name with a DHCID and so many addresses: the first one, the last or any."""
+        places = [at for at, slot in enumerate(self.slots) if slot.dhcid and len(slot.families()) == addresses]
+        return rng.choice((places[0], places[-1], rng.choice(places))) if places else None
+
     def unused(self, rng: random.Random) -> Optional[bytes]:
         used = {slot.name for slot in self.slots}
         names = [name for name in self.stock.names if name not in used]
@@ -184,14 +189,35 @@ def add_other(rng: random.Random, state: State) -> Optional[Step]:
     return Step(call, None, 2, replaced(state.slots, at, new_slot(call))) if call.policy == 1 else Step(call, 30)
 
 
-def remove_held(rng: random.Random, state: State) -> Optional[Step]:
-    at = state.pick(rng, True)
-    if at is None or not state.slots[at].families():
-        return None
+def remove_right(rng: random.Random, state: State, at: int) -> Tuple[Call, Slot]:
+    """A remove of an address that is there, by who holds the name, and the slot without that address"""
     slot = state.slots[at]
     family = rng.choice(slot.families())
     call = state.call(rng, "remove", slot.name, slot.dhcid)._replace(family=family, address=slot.address(family))
-    return Step(call, None, 0, replaced(state.slots, at, slot.with_address(family, b"")))
+    return call, slot.with_address(family, b"")
+
+
+def remove_one_of_two(rng: random.Random, state: State) -> Optional[Step]:
+    at = state.pick_held(rng, 2)
+    if at is None:
+        return None
+    call, left = remove_right(rng, state, at)
+    return Step(call, None, 0, replaced(state.slots, at, left))
+
+
+def remove_last(rng: random.Random, state: State) -> Optional[Step]:
+    """The name goes with its last address (document 02, K1)."""
+    at = state.pick_held(rng, 1)
+    return None if at is None else Step(remove_right(rng, state, at)[0], None, 0, replaced(state.slots, at))
+
+
+def remove_at_dhcid_alone(rng: random.Random, state: State) -> Optional[Step]:
+    """No address is there to remove: 34, or 30 for another client."""
+    at = state.pick_held(rng, 0)
+    if at is None:
+        return None
+    call = state.call(rng, "remove", state.slots[at].name, rng.choice((state.slots[at].dhcid, b"")))
+    return Step(call, 34 if call.dhcid == state.slots[at].dhcid else 30)
 
 
 def remove_other_address(rng: random.Random, state: State) -> Optional[Step]:
@@ -241,7 +267,8 @@ def count_names(_: random.Random, state: State) -> Step:
 
 
 STEPS = ((add_unused,) * 6 + (add_same,) * 3 + (add_other,) * 5
-         + (remove_held,) * 4 + (remove_other_address, remove_other_address, remove_other_dhcid, by_hand, unknown) + (clear_known,) * 2
+         + (remove_last,) * 2 + (remove_one_of_two,) * 2
+         + (remove_at_dhcid_alone, remove_other_address, remove_other_address, remove_other_dhcid, by_hand, unknown) + (clear_known,) * 2
          + (find_known,) * 3 + (count_names,) * 2)
 
 
@@ -441,7 +468,7 @@ def sequence(rng: random.Random) -> Iterator[Case]:
     """Steps on one table: of few names, of many, or about full from the start; seldom with long names then, which take long."""
     way = rng.randrange(12)
     if way < 8:
-        count, start = rng.randint(2, 6), rng.choice((0, 0, 3))
+        count, start = rng.randint(2, 6), rng.choice((0, 3, 3))
     elif way < 10:
         count, start = 20, rng.randint(0, 20)
     else:
@@ -509,7 +536,8 @@ def bytes_of_tables() -> Iterator[Call]:
 
 
 def full_tables() -> Iterator[Call]:
-    """62, 63 and 64 names: steps on each of them and on another; every number of names counted; every two of 64 with one name."""
+    """62, 63 and 64 names: steps on each of them and on another; each removed with its last address, in both families; every number of names counted;
+    every two of 64 with one name."""
     names = [wire([b"n%d" % number]) for number in range(NAMES)]
     full = tuple(Slot(name, ADDRESSES[4][0], ADDRESSES[6][0], DHCIDS[0]) for name in names)
     for count in (62, 63, 64):
@@ -517,6 +545,11 @@ def full_tables() -> Iterator[Call]:
         for name in names[:count] + [B_NAME]:
             for step in NAMED + (ADD._replace(dhcid=DHCIDS[1]), ADD._replace(dhcid=DHCIDS[1], policy=0)):
                 yield step._replace(table=table, name=name)
+    for count, family in itertools.product((62, 63, 64), (4, 6)):
+        address = ADDRESSES[family][0]
+        table = table_bytes([Slot(name, dhcid=DHCIDS[0]).with_address(family, address) for name in names[:count]])
+        for name in names[:count]:
+            yield REMOVE._replace(table=table, name=name, family=family, address=address)
     for count in range(NAMES + 1):
         yield COUNT._replace(table=table_bytes(full[:count]))
     for one, other in itertools.combinations(range(NAMES), 2):

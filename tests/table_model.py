@@ -1,4 +1,5 @@
-"""What the steps of the table of names have to answer: a second implementation of document 01's rules for the table (docs/RULES.md, 7).
+"""What the steps of the table of names have to answer: a second implementation of document 01's rules for the table (docs/RULES.md, 7), with the
+remove of document 02, K1 (RFC 4703, section 5.5).
 
 It was written from the paper and not from the library, and goes another way: the bytes are read into a dictionary of names, which keeps the
 order of arrival by itself; they are sound if that dictionary, written out again, gives them back; a step changes the dictionary, find and count
@@ -110,6 +111,8 @@ def remove(table: Table, name: bytes, call: Call) -> int:
     if held.get(ADDRESS[call.family]) != call.address:
         raise Refusal(ADDRESS_NOT_HELD)
     del held[ADDRESS[call.family]]
+    if A not in held and AAAA not in held:  # document 02, K1: with the last address the DHCID goes, and so the name; later names move up
+        del table[name]
     return 0
 
 

@@ -1,15 +1,14 @@
-/* Both addresses go. */
+/* Both addresses go, and the DHCID alone is left. */
 #include "table.h"
 
 static uint64_t judged(struct step *s)
 {
     uint8_t *slot = find(s);
-    uint64_t answer = ask(s);
-    if (answer == 0) {
-        memset(slot + A_AT, 0, DHCID_AT - A_AT);
-        slot[FLAGS_AT] = HAS_DHCID;
-    }
-    return answer;
+    if (!leaves_name(s, slot))
+        return ask(s);
+    delete_address(slot, 4);
+    delete_address(slot, 6);
+    return 0;
 }
 
 PLANT_REMOVE(judged)

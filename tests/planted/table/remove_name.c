@@ -1,13 +1,13 @@
-/* The name goes with its last address. */
+/* The name goes with an address, though the other family's stands. */
 #include "table.h"
 
 static uint64_t judged(struct step *s)
 {
     uint8_t *slot = find(s);
-    uint64_t answer = ask(s);
-    if (answer == 0 && slot[FLAGS_AT] == HAS_DHCID)
-        take_out(s->table, slot);
-    return answer;
+    if (!leaves_name(s, slot))
+        return ask(s);
+    take_out(s->table, slot);
+    return 0;
 }
 
 PLANT_REMOVE(judged)

@@ -266,6 +266,24 @@ static inline size_t size_of(uint32_t family)
     return family == 4 ? 4 : 16;
 }
 
+static inline void delete_address(uint8_t *slot, uint32_t family)
+{
+    memset(address_in(slot, family), 0, size_of(family));
+    slot[FLAGS_AT] &= (uint8_t)~flag_of(family);
+}
+
+/* Whether a remove that is accepted takes the name of this slot with its last address, or leaves it (document 02, K1); it is asked before the call. */
+
+static inline int takes_name(const struct step *s, const uint8_t *slot)
+{
+    return ask_only(s) == 0 && (slot[FLAGS_AT] & (HAS_A | HAS_AAAA)) == flag_of(s->family);
+}
+
+static inline int leaves_name(const struct step *s, const uint8_t *slot)
+{
+    return ask_only(s) == 0 && !takes_name(s, slot);
+}
+
 static inline int is_dhcid(const uint8_t *dhcid, size_t len)
 {
     return len == DHCID && dhcid[0] == 0 && dhcid[1] <= 2 && dhcid[2] == 1;
