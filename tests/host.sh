@@ -239,15 +239,15 @@ is "what a write leaves beside its file" "" "$(find "$run" -name '*.new')"
 
 # names with a DHCID alone, side by side and at both ends, go, the last one first; the others stay in their order
 dhcid="DHCID AAABxLmlskllE0MVjd57zHcWmEH3pCQ6VytcKD//7es/deY="
-printf '%s\n' "gone-1. $dhcid" "gone-2. $dhcid" "held. AAAA 2001:db8:0:0:0:0:0:1" "held. $dhcid" "hand. A 192.0.2.1" "gone-3. $dhcid" >"$run/released.listing"
+printf '%s\n' "gone-1. $dhcid" "gone-2. $dhcid" "held. AAAA 2001:db8:0:0:0:0:0:1" "held. $dhcid" "hand. A 192.0.2.1" "gone-3. $dhcid" >"$run/alone.listing"
 cat >"$out/expected" <<END
-load released.listing: records: 6, and the file does not say how many were written
+load alone.listing: records: 6, and the file does not say how many were written
 count: names: 5, and there is room for 59 more
 find held.: slot 2, held by a client
 held. AAAA 2001:0db8:0000:0000:0000:0000:0000:0001
 held. $dhcid
-clear-released: gone-3. gone-2. gone-1. names: 3
-clear-released: names: 0
+clear-without-address: gone-3. gone-2. gone-1. names: 3
+clear-without-address: names: 0
 find held.: slot 0, held by a client
 held. AAAA 2001:0db8:0000:0000:0000:0000:0000:0001
 held. $dhcid
@@ -256,14 +256,37 @@ held. AAAA 2001:0db8:0000:0000:0000:0000:0000:0001
 held. $dhcid
 hand. A 192.0.2.1
 END
-told "names that were released" 0 "$out/expected" < <(sed -n 's/: .*//p' "$out/expected")
+told "names with a DHCID alone" 0 "$out/expected" < <(sed -n 's/: .*//p' "$out/expected")
+
+# a name goes with its last address, and those behind it move up; one that has another address stays where it is (document 02, K1)
+acid="DHCID $(python3 "$folder/dhcids.py" | sed -n '1s/^acid-1[^ ]* //p')"
+feed="DHCID $(python3 "$folder/dhcids.py" | sed -n 's/^feed-1[^ ]* //p')"
+printf '%s\n' "acid-1.bay3.example.net. A 192.0.2.31" "acid-1.bay3.example.net. $acid" "feed-1.bay3.example.net. A 192.0.2.34" \
+  "feed-1.bay3.example.net. AAAA 2001:db8:0:3:0:0:0:21" "feed-1.bay3.example.net. $feed" "hand. A 192.0.2.1" >"$run/returned.listing"
+cat >"$out/expected" <<END
+load returned.listing: records: 6, and the file does not say how many were written
+release 4 base-1-as-acid-1.hex 192.0.2.31: acid-1.bay3.example.net.: refused 30: ...
+release 4 acid-1.hex 192.0.2.31: acid-1.bay3.example.net.: answer 0: the last address is gone, and the name is free
+release 4 acid-1.hex 192.0.2.31: acid-1.bay3.example.net.: refused 33: ...
+find hand.: slot 1, kept by hand
+hand. A 192.0.2.1
+release 4 feed-1-ipv4.hex 192.0.2.34: feed-1.bay3.example.net.: answer 0: the address is gone, the name stays this client's
+release 4 feed-1-ipv4.hex 192.0.2.34: feed-1.bay3.example.net.: refused 34: ...
+find feed-1.bay3.example.net.: slot 0, held by a client
+feed-1.bay3.example.net. AAAA 2001:0db8:0000:0003:0000:0000:0000:0021
+feed-1.bay3.example.net. $feed
+release 6 feed-1.hex 2001:db8:0:3:0:0:0:21: feed-1.bay3.example.net.: answer 0: the last address is gone, and the name is free
+show: records: 1
+hand. A 192.0.2.1
+END
+told "names that are returned" 1 "$out/expected" < <(sed -n 's/: .*//p' "$out/expected")
 
 # ---- lines that are no commands
 
 wrong="no such command, or not with so many words; README.md has them all"
 {
   printf '\n; a comment\n \t \nfrobnicate\nrequest 4 acid-1.hex\nload a listing\nshow show show show show show show\nset nothing\n'
-  printf 'site acid-1\nclear a..b.\nclear a.(\nfind .\nfind a.b.\ncount\nclear-released\nfind\ncount a.\nSHOW\n\tshow\t\nsh\0w\nshow\r\n\303\244\n'
+  printf 'site acid-1\nclear a..b.\nclear a.(\nfind .\nfind a.b.\ncount\nclear-released\nclear-without-address\nfind\ncount a.\nSHOW\n\tshow\t\nsh\0w\nshow\r\n\303\244\n'
   printf 'clear %0600d\nnew' 0
 } >"$out/text"
 cat >"$out/expected" <<END
@@ -279,7 +302,8 @@ clear a.(: refused 9: ...
 find .: refused 9: ...
 find a.b.: refused 33: ...
 count: names: 0, and there is room for 64 more
-clear-released: names: 0
+clear-released: $wrong
+clear-without-address: names: 0
 find: $wrong
 count a.: $wrong
 SHOW: $wrong

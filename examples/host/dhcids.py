@@ -17,6 +17,7 @@ assert dhcid(1, "01 07 08 09 0a 0b 0c", "chi.example.com.") == "AAEBOSD+XR3Os/0L
 
 for kind, identifier, name in (
     (1, "01 00 00 5e 00 53 1a", "acid-1.bay3.example.net."),  # the data of option 61
+    (1, "01 00 00 5e 00 53 1b", "acid-1.bay3.example.net."),  # the same of the acid head's successor
     (0, "01 00 00 5e 00 53 2b", "base-1.bay3.example.net."),  # htype and hardware address
     (2, "00 03 00 01 00 00 5e 00 53 3c", "feed-1.bay3.example.net."),  # the DUID
     (2, "00 03 00 01 00 00 5e 00 53 3c", "unnamed.bay3.example.net."),  # the same head under the site's name

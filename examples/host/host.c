@@ -131,12 +131,13 @@ static enum status do_lease(struct gateway *g, char **words)
     static const char *const GIVEN[] = {"the name was free and is now this client's", "the client holds the name, and has this address now",
                                         "the name was another client's and is now this one's"};
     static const char *const TAKEN[] = {"the address is gone, the name stays this client's"};
+    static const char *const RETURNED[] = {"the last address is gone, and the name is free"};
     uint8_t message[VICHRELKA_MESSAGE_LIMIT + 1]; /* one byte more, so that what is too long still is */
     uint8_t dhcid[VICHRELKA_DHCID_LEN], address[16];
     uint32_t family = read_family(words[1]);
     size_t message_len, name_len, address_len = read_address(words[3], address);
     const uint8_t *name;
-    uint64_t answer;
+    uint64_t answer, found;
 
     if (!read_message(words[2], message, sizeof message, &message_len))
         return say(TROUBLE, "no message: look whether the file is there, and has hexadecimal digits in pairs and nothing else");
@@ -154,7 +155,10 @@ static enum status do_lease(struct gateway *g, char **words)
         return refused(answer, NULL);
     if (strcmp(words[0], "request") == 0)
         return stepped(vichrelka_table_add(g->table, sizeof g->table, name, name_len, dhcid, sizeof dhcid, family, address, address_len, g->policy), GIVEN);
-    return stepped(vichrelka_table_remove(g->table, sizeof g->table, name, name_len, dhcid, sizeof dhcid, family, address, address_len), TAKEN);
+    answer = vichrelka_table_remove(g->table, sizeof g->table, name, name_len, dhcid, sizeof dhcid, family, address, address_len);
+    /* the answer is 0 whether the name stays or goes with its last address: a find tells which */
+    found = vichrelka_table_find(g->table, sizeof g->table, name, name_len);
+    return stepped(answer, vichrelka_refusal(found) == VICHRELKA_REFUSED_NAME_NOT_HELD ? RETURNED : TAKEN);
 }
 
 static enum status do_clear(struct gateway *g, char **words)
@@ -167,10 +171,10 @@ static enum status do_clear(struct gateway *g, char **words)
 }
 
 /*
- * Takes out the names that have a DHCID and no address: their clients were released. Later names move up when one goes, so the last one
- * comes first. The name is copied out of its slot, since the library writes to the table.
+ * Takes out the names that have a DHCID and no address: a listing may have them, and no remove takes them. Later names move up when one
+ * goes, so the last one comes first. The name is copied out of its slot, since the library writes to the table.
  */
-static enum status do_clear_released(struct gateway *g, char **words)
+static enum status do_clear_without_address(struct gateway *g, char **words)
 {
     uint64_t answer = vichrelka_table_count(g->table, sizeof g->table);
     uint32_t i = vichrelka_value(answer), cleared = 0;
@@ -328,8 +332,8 @@ static const struct command {
     const char *name;
     int words; /* with the name */
     enum status (*run)(struct gateway *, char **words);
-} COMMANDS[] = {{"request", 4, do_lease}, {"release", 4, do_lease}, {"clear", 2, do_clear},     {"clear-released", 1, do_clear_released},
-                {"find", 2, do_find},     {"count", 1, do_count},   {"write", 2, do_write},     {"show", 1, do_write},
+} COMMANDS[] = {{"request", 4, do_lease}, {"release", 4, do_lease}, {"clear", 2, do_clear},      {"clear-without-address", 1, do_clear_without_address},
+                {"find", 2, do_find},     {"count", 1, do_count},   {"write", 2, do_write},      {"show", 1, do_write},
                 {"load", 2, do_load},     {"new", 1, do_set},       {"load-anyway", 2, do_load}, {"site", 2, do_set},
                 {"set", 2, do_set}};
 
