@@ -50,9 +50,9 @@ extern "C" {
 
 /* The version. From 0.2.0 on the second number goes up with whatever adds a call, or changes what a call takes,
    answers or leaves, a byte form or a size. The third goes up with any other change. */
-#define VICHRELKA_VERSION "0.3.0"
+#define VICHRELKA_VERSION "0.4.0"
 #define VICHRELKA_VERSION_MAJOR 0
-#define VICHRELKA_VERSION_MINOR 3
+#define VICHRELKA_VERSION_MINOR 4
 #define VICHRELKA_VERSION_PATCH 0
 
 /* At every call: warn where its answer is dropped. Empty for a compiler that has no word for that. */
@@ -368,8 +368,11 @@ uint64_t vichrelka_listing_check(const uint8_t *text, size_t text_len);
  * All zeros are sound: a store that was lost and comes back as zeros is an empty table to every call, and 40 does
  * not tell the one from the other. A host that has to know keeps a mark of its own beside the table.
  *
- * A name without a DHCID is kept by hand, and no client gets it. Names are given in wire form, in either case, and
- * are stored in lower case.
+ * A name without a DHCID is kept by hand, and no client gets it. A name with a DHCID and no address is sound too.
+ * Add and remove make none, but a listing that was loaded may have one, and so may a table that a version before
+ * 0.4.0 left. Its client holds it as any other name: for another client an add under VICHRELKA_FIRST_WINS is 30. A
+ * remove finds no address there, which is 34; a clear takes the name out. Names are given in wire form, in either
+ * case, and are stored in lower case.
  *
  * Add, remove and clear have place 0 in every refusal, and then have changed nothing. They write to the table
  * alone.
@@ -394,10 +397,15 @@ uint64_t vichrelka_table_add(uint8_t *table, size_t table_len,
                              const uint8_t *address, size_t address_len, uint32_t policy);
 
 /*
- * Delete this address of the name, which the client with this DHCID holds. Its value is 0. The DHCID stays, and so
- * does the name. A message that releases a lease is not a request, and vichrelka_dhcid refuses it with 7: keep name
- * and DHCID with the lease. Copy a name, a DHCID or an address out of the table before you give it to this call:
- * the table is written, and overlaps nothing else that is lent.
+ * Delete this address of the name, which the client with this DHCID holds. Its value is 0. If the name has an
+ * address of the other family, that one stays, and the name keeps its DHCID and its slot. If it has none, the name
+ * goes with its last address, and its DHCID too (RFC 4703, section 5.5): any client may get the name then. Later
+ * names move up by a slot, and the slot behind the last name becomes zeros. So an index or an offset into the table
+ * that you kept from before is old: ask vichrelka_table_find, which answers 33 if the name went.
+ *
+ * A message that releases a lease is not a request, and vichrelka_dhcid refuses it with 7: keep name and DHCID with
+ * the lease. Copy a name, a DHCID or an address out of the table before you give it to this call: the table is
+ * written, and overlaps nothing else that is lent.
  *
  * Refusals, in order: 12 (family), 40, 9, 15, 16, 33, 31, 30, 34.
  */
