@@ -3,8 +3,9 @@
  * Vichrelka: which DHCP client holds which name.
  *
  * This is the part of a site gateway that reads DHCP requests, computes DHCIDs (RFC 4701), reads and writes the
- * listing of names, and keeps the table of names. Every call is proved to meet a written promise for every input,
- * the refused ones included. The comment at each call has that promise in short, docs/PROMISES.md has it in full.
+ * listing of names, and keeps the table of names, with a book for the next restart. Every call is proved to meet a
+ * written promise for every input, the refused ones included. The comment at each call has that promise in short,
+ * docs/PROMISES.md has it in full.
  *
  * Every call answers one uint64_t: keep it in one. The low half is the number of a refusal, 0 if the call was
  * accepted. The high half is the call's value if it was accepted, and an offset into what was refused if it was
@@ -50,9 +51,9 @@ extern "C" {
 
 /* The version. From 0.2.0 on the second number goes up with whatever adds a call, or changes what a call takes,
    answers or leaves, a byte form or a size. The third goes up with any other change. */
-#define VICHRELKA_VERSION "0.4.0"
+#define VICHRELKA_VERSION "0.5.0"
 #define VICHRELKA_VERSION_MAJOR 0
-#define VICHRELKA_VERSION_MINOR 4
+#define VICHRELKA_VERSION_MINOR 5
 #define VICHRELKA_VERSION_PATCH 0
 
 /* At every call: warn where its answer is dropped. Empty for a compiler that has no word for that. */
@@ -94,6 +95,10 @@ extern "C" {
 /* The most bytes that a table is as a listing: 883 for each name. So much output is always enough. */
 #define VICHRELKA_WRITTEN_LIMIT (VICHRELKA_TABLE_NAMES * 883)
 
+/* The bytes of a block of the book of names, and the most bytes that a tidied book has: a block for each name. */
+#define VICHRELKA_BLOCK_LEN 512
+#define VICHRELKA_TIDIED_LIMIT (VICHRELKA_TABLE_NAMES * VICHRELKA_BLOCK_LEN)
+
 /* The numbers of the refusals. A level of a DHCPv6 message is a relay's message, or the client's message, which is
    inside them all. An entry of a listing is a line, or several lines that parentheses hold together. */
 enum vichrelka_refused {
@@ -118,13 +123,14 @@ enum vichrelka_refused {
        have 3 to 130 bytes */
     VICHRELKA_REFUSED_NO_IDENTIFIER = 8,
     /* no name can be used: the site's is not proper, and the client's is not proper either or is not asked for; in
-       add, remove, clear, find and the two calls on names in text: the name that was given is not proper */
+       add, remove, clear, find, the two calls on names in text and the block of a name: the name that was given is
+       not proper */
     VICHRELKA_REFUSED_NO_PROPER_NAME = 9,
     /* DHCPv6: there is a ninth relay; no more than eight may be around the client's message */
     VICHRELKA_REFUSED_TOO_MANY_RELAYS = 11,
     /* the family is not 4 or 6, or the setting or the policy is not 0 or 1 */
     VICHRELKA_REFUSED_UNKNOWN_SETTING = 12,
-    /* there is less room for the output, or for the table in a load, than what is to be written */
+    /* there is less room for the output, or for the table in a load or a replay, than what is to be written */
     VICHRELKA_REFUSED_OUTPUT_SHORT = 13,
     /* identifier and name have more than 4,096 bytes together: a number of the rules that no message leads to */
     VICHRELKA_REFUSED_HASH_INPUT_LONG = 14,
@@ -157,8 +163,15 @@ enum vichrelka_refused {
     /* a listing that is loaded has two records of one type for one name, whether they are the same or not */
     VICHRELKA_REFUSED_RECORD_REPEATED = 35,
     /* the table is not VICHRELKA_TABLE_LEN bytes, or they are not those of a table (all zeros are): see "The table
-       of names" */
-    VICHRELKA_REFUSED_TABLE_NOT_SOUND = 40
+       of names"; or a book has more than VICHRELKA_TABLE_NAMES names after some block */
+    VICHRELKA_REFUSED_TABLE_NOT_SOUND = 40,
+    /* the last 32 bytes of a block are not the SHA-256 of its first 480: see "The book of names" */
+    VICHRELKA_REFUSED_WRONG_CHECK = 42,
+    /* a block whose check is right has another number than its place in the book, a kind other than 0 and 1, a field
+       that is not one, a byte that should be zero, or says of a name that it is gone which is not there */
+    VICHRELKA_REFUSED_WRONG_FIELD = 43,
+    /* the length of a book is not a multiple of VICHRELKA_BLOCK_LEN */
+    VICHRELKA_REFUSED_BLOCK_LENGTH = 44
 };
 
 /* The family of a DHCP message, and that of an address. */
@@ -238,7 +251,10 @@ static inline const char *vichrelka_refusal_text(uint32_t number)
     case VICHRELKA_REFUSED_NAME_NOT_HELD: return "the name is not in the table";
     case VICHRELKA_REFUSED_ADDRESS_DIFFERS: return "the name does not have this address";
     case VICHRELKA_REFUSED_RECORD_REPEATED: return "the listing has two records of one type for a name";
-    case VICHRELKA_REFUSED_TABLE_NOT_SOUND: return "the bytes are not a sound table";
+    case VICHRELKA_REFUSED_TABLE_NOT_SOUND: return "the bytes are not a sound table, or the book has too many names";
+    case VICHRELKA_REFUSED_WRONG_CHECK: return "a block's check is wrong";
+    case VICHRELKA_REFUSED_WRONG_FIELD: return "a block's number or one of its fields is wrong";
+    case VICHRELKA_REFUSED_BLOCK_LENGTH: return "the bytes are not whole blocks";
     default: return "unknown refusal";
     }
 }
@@ -357,7 +373,7 @@ uint64_t vichrelka_listing_check(const uint8_t *text, size_t text_len);
  * The table of names: up to VICHRELKA_TABLE_NAMES names in the order in which they came. A name has an A, an AAAA
  * or a DHCID, or more than one of these, but none of them twice. The table is VICHRELKA_TABLE_LEN bytes of yours.
  * All zeros is the empty table. The bytes may be stored, copied and compared as they are. Every call but the load
- * tests that they are sound, and each leaves them so:
+ * and the replay tests that they are sound, and each leaves them so:
  *
  *     a slot       the name's wire length (1 byte), the name (255), flags (1), A (4), AAAA (16), DHCID (35)
  *     flags        1 A, 2 AAAA, 4 DHCID; at least one of them
@@ -476,6 +492,100 @@ uint64_t vichrelka_table_write(const uint8_t *table, size_t table_len, uint8_t *
  */
 VICHRELKA_NODISCARD
 uint64_t vichrelka_table_load(uint8_t *table, size_t table_len, const uint8_t *text, size_t text_len);
+
+/*
+ * The book of names: what happened to the table, so that it outlasts a restart. It is blocks of VICHRELKA_BLOCK_LEN
+ * bytes, which you store one behind the other:
+ *
+ *     number       its place in the book, from 0 on (4 bytes, the highest first)
+ *     kind         1 the name as it now stands, 0 the name is gone (1 byte)
+ *     slot         that of the table; for kind 0 the name with flags 0 (VICHRELKA_SLOT_LEN bytes, from byte 5 on)
+ *     zeros        up to byte 479
+ *     check        the SHA-256 of the 480 bytes before it (32 bytes)
+ *
+ * A replay goes through the blocks from the first on. A name of kind 1 that is in the table gets this slot and keeps
+ * its place; one that is not becomes the last. A name of kind 0 has to be there and goes, and later ones move up. A
+ * book of no bytes is the empty table.
+ *
+ * How to keep one:
+ *
+ *   - After each accepted add, remove and clear append that name's block, under the number of blocks that the book
+ *     has so far, and tell the client only when it is stored. Append nothing after a refused call: the block of a
+ *     name that is not in the table and was not there before is one that no replay takes.
+ *   - If several names change at once, store each block before the next one is written: the rule for a restart counts
+ *     on at most one block that is not whole. If a block could not be stored, store no later one before it, and write
+ *     the next one where the stored ones end, over what is torn.
+ *   - After a load, and for a new table, begin a book anew: the blocks of the table's names in their order, under 0,
+ *     1, 2 and so on; none for an empty table. Write it into a second area, and switch to that as to a tidied book.
+ *   - At a restart lend what was stored, without what is only erased behind it, and ask vichrelka_book_sound how many
+ *     blocks are sound. Cut off only what a write that was cut can leave behind them: fewer than VICHRELKA_BLOCK_LEN
+ *     bytes, or just one whole block for which a replay of the sound ones with it answers 42. Then replay the sound
+ *     ones. If that block is 43 or 40, or if there is more behind them, cut nothing and replay nothing, but let a
+ *     person decide: a block can be whole and right and not for this gateway, with a name too many, or of a kind that
+ *     a later version writes.
+ *   - If no block is sound, look whether the bytes are a book at all before you cut any: 512 bytes of something else
+ *     look like a first block whose write was cut.
+ *   - Say what was cut off. A last block that was stored whole and damaged later looks the same as a write that was
+ *     cut, so a step that a client was told of may be the one that is lost.
+ *   - Now and then tidy the book into a second area, and then switch to that one. Both replay to the same table, so a
+ *     power cut in between does no harm. Store the length with the switch, or erase what is behind: old blocks there
+ *     have right checks, and one whose number fits would be taken for the next block.
+ *   - A book has to be lent whole: tidy it before it outgrows the memory that you have for it.
+ *
+ * That stored bytes come back as they were written is not for these calls to promise. The check tells if they do
+ * not, as surely as SHA-256 does. It does not tell that whole blocks are missing at the end, that the bytes are an
+ * older copy, or who wrote them: these are books, and the check is no signature.
+ */
+
+/*
+ * Write the block of a name, as the table has it, under this number, at the beginning of out. Its value is
+ * VICHRELKA_BLOCK_LEN: so many bytes are written, and those behind them stay as they are. The block of a name that
+ * is not in the table says that it is gone: a replay takes that one only where the name was there before, so append
+ * a block after an accepted step alone.
+ *
+ * Refusals, in order, with place 0: 40, 9; 13 for fewer than VICHRELKA_BLOCK_LEN bytes of out. If it is refused,
+ * nothing is written.
+ */
+VICHRELKA_NODISCARD
+uint64_t vichrelka_book_block(const uint8_t *table, size_t table_len, const uint8_t *name, size_t name_len,
+                              uint32_t number, uint8_t *out, size_t out_len);
+
+/*
+ * Replay a book: replace the first VICHRELKA_TABLE_LEN bytes of table, whatever they were, by the table that its
+ * blocks give. Its value is 0. The former bytes are not looked at, and need not be a table's. Lend just
+ * VICHRELKA_TABLE_LEN bytes: of a longer area those behind stay as they are, and the other calls answer 40 to such
+ * an area.
+ *
+ * Refusals, in order, with place 0: 44; for the first bad block 42, or 43 if its check is right; 40 if after some
+ * block more than VICHRELKA_TABLE_NAMES names are there, also if a later one takes a name out again; 13 for fewer
+ * than VICHRELKA_TABLE_LEN bytes of table. A bad block comes before 40 wherever it is in the book: which names are
+ * there is judged with all of them kept, also those that a table has no room for. If it is refused, the table is as
+ * it was.
+ */
+VICHRELKA_NODISCARD
+uint64_t vichrelka_book_replay(uint8_t *table, size_t table_len, const uint8_t *book, size_t book_len);
+
+/*
+ * Tidy a book: write, at the beginning of out, one block for each name of the table that it replays to, in order,
+ * under 0, 1, 2 and so on. Its value is the number of bytes written, 0 if no name is left; the bytes of out behind
+ * them stay as they are. VICHRELKA_TIDIED_LIMIT bytes of out are always enough. What is written replays to the same
+ * table, byte for byte, and no shorter book does.
+ *
+ * Refusals, in order, with place 0: those of vichrelka_book_replay, but 13 for fewer bytes of out than the tidied
+ * book has. If it is refused, nothing is written.
+ */
+VICHRELKA_NODISCARD
+uint64_t vichrelka_book_tidy(const uint8_t *book, size_t book_len, uint8_t *out, size_t out_len);
+
+/*
+ * Count the sound blocks of a book, also of a damaged one. Its value is the greatest number of blocks, from the first
+ * on, that are a book which a replay takes into VICHRELKA_TABLE_LEN bytes of table. Bytes behind the last whole block
+ * are not looked at. If 2^32 blocks or more are sound, the value is 2^32 - 1.
+ *
+ * There is no refusal. Nothing is written.
+ */
+VICHRELKA_NODISCARD
+uint64_t vichrelka_book_sound(const uint8_t *book, size_t book_len);
 
 #ifdef __cplusplus
 }

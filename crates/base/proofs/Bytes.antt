@@ -88,3 +88,18 @@ pub set-overlay : (to : List ℕ) (at x : ℕ) → at < length to → set to at 
 unfolding overlay
 set-overlay to at x within =
     set-split to at x within ∙ sym (append-snoc (take at to) x (drop (suc at) to)) ∙ ap (λ (k : ℕ). take at to ++ (x ∷ []) ++ drop k to) (sym (add-one at))
+
+-- ---- bytes that are written from the beginning of an area on
+
+module _ (area b : List ℕ) where
+  pub taken-back : take (length b) (overlay area 0 b) ≡ b
+  taken-back = ap (λ (k : ℕ). take k (overlay area 0 b)) (sym (zero-add (length b))) ∙ take-overlay area 0 b (omega arith)
+
+  pub left-behind : drop (length b) (overlay area 0 b) ≡ drop (length b) area
+  left-behind =
+      ap (λ (k : ℕ). drop k (overlay area 0 b)) (sym (zero-add (length b))) ∙ drop-overlay area 0 b (omega arith) ∙ ap (λ (k : ℕ). drop k area) (zero-add (length b))
+
+-- what was written through a part that was lent, from the beginning on
+pub written-front : (n : ℕ) (area e b : List ℕ) → length b ≡ n → e ≡ b → e ++ drop n area ≡ overlay area 0 b
+unfolding overlay
+written-front n area e b size same = let long : n ≡ 0 + length b = omega (arith, size) in ap₂ (λ (l : List ℕ) (j : ℕ). l ++ drop j area) same long

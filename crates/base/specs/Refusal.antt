@@ -1,5 +1,5 @@
--- The refusal numbers of document 01, "Refusal numbers" (docs/RULES.md, 2.2), in its order, one name each: the list of src/refusal.rt, for contracts.
--- docs/REFUSALS.md says when each is given. 10, 18, 19 and 23 are no refusal's.
+-- The refusal numbers of document 01, "Refusal numbers" (docs/RULES.md, 2.2), in its order, and from 42 on those of document 02, one name each: the
+-- list of src/refusal.rt, for contracts. docs/REFUSALS.md says when each is given. 10, 18, 19, 23 and 41 are no refusal's.
 use Prim.Native.Nat.{ℕ}
 
 abbrev pub messageLength : ℕ
@@ -85,3 +85,12 @@ recordRepeated = 35
 
 abbrev pub tableNotSound : ℕ
 tableNotSound = 40
+
+abbrev pub wrongCheck : ℕ
+wrongCheck = 42
+
+abbrev pub wrongField : ℕ
+wrongField = 43
+
+abbrev pub blockLength : ℕ
+blockLength = 44

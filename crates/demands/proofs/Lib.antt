@@ -3,6 +3,7 @@ pub mod RequestLaws
 pub mod ListingLaws
 pub mod TableLaws
 pub mod TextLaws
+pub mod BookLaws
 pub mod TellLaws
 pub mod DhcidLaws
 pub mod ChangeLaws

@@ -1,5 +1,6 @@
 -- The customer's three demands (specs/) hold of what the calls promise; each by citation. The customer's numbers are compared with the code's, not copied: one that asks for less passes here, one that asks
 -- for more is refused. Assumes nothing.
+use mathlib.Core.List.{[]}
 use native.Mathlib.Omega.{arith}
 use Rattle.listing.specs.Reading.{limit}
 use Rattle.row.proofs.Theorems as row
@@ -8,6 +9,7 @@ use Rattle.name_text.proofs.Theorems as text
 use Rattle.table.proofs.Theorems.{refused-add, refused-remove, refused-clear}
 use Rattle.records.proofs.Theorems.{refused-write, refused-load}
 use Rattle.slots.specs.Sizes.{mostNames}
+use Rattle.book.proofs.Theorems.{refused-block, refused-replay, refused-tidy}
 use Rattle.demands.specs.Demand1.{Demand1, Unchanged}
 use Rattle.demands.specs.Demand2.{Demand2}
 use Rattle.demands.specs.Demand3.{Demand3}
@@ -18,6 +20,7 @@ use Rattle.demands.proofs.ChangeLaws.{same-table, enough-always, add-is
 use Rattle.demands.proofs.ListingLaws.{listing-refuses, row-refuses, step-refuses, load-refuses}
 use Rattle.demands.proofs.TableLaws.{add-in-row, remove-in-row, clear-in-row, find-in-row, count-in-row, write-in-row}
 use Rattle.demands.proofs.TextLaws.{from-text-in-row, to-text-in-row}
+use Rattle.demands.proofs.BookLaws.{block-in-row, replay-in-row, tidy-in-row, sound-in-row}
 
 pub demand-1 : Demand1
 unfolding Unchanged
@@ -40,6 +43,10 @@ demand-1 =
       count = λ b a h. by-order _ (count-in-row b a h);
       write = λ b out a left h. (by-order _ (write-in-row b out a left h), refused-write mostNames b out a left h);
       load = λ t area a left h. (load-refuses t area a left h, refused-load limit mostNames t area a left h);
+      block = λ b name i out a left h. (by-order _ (block-in-row b name i out a left h), refused-block mostNames b name i out a left h);
+      replay = λ book area a left h. (by-order _ (replay-in-row book area a left h), refused-replay mostNames book area a left h);
+      tidy = λ book out a left h. (by-order _ (tidy-in-row book out a left h), refused-tidy mostNames book out a left h);
+      sound = λ book a h. by-order [] (sound-in-row book a h);
     }
 
 pub demand-2 : Demand2

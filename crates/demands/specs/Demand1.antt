@@ -9,7 +9,7 @@ use Prim.Native.Nat.{ℕ}
 use mathlib.Core.Bool.{true}
 use mathlib.Core.Path.{_≡_}
 use mathlib.Core.Logic.{_↔_}
-use mathlib.Core.List.{List}
+use mathlib.Core.List.{List, []}
 use lib.ListN.{length}
 use Rattle.base.specs.declared.Answer.{Answer}
 use Rattle.base.specs.declared.Answer.the-variants.{Refused}
@@ -26,7 +26,8 @@ use Rattle.row.specs.Row.{RowRead}
 use Rattle.name_text.specs.Calls.{ReadsText, WritesText}
 use Rattle.table.specs.Calls.{Adds, Removes, Clears, Finds, Counts}
 use Rattle.records.specs.Calls.{Writes, Loads}
-use Rattle.demands.specs.Faults.{InOrder, NameFault, DhcidFault, ListingFault, RowFault, StepFault, LoadFault, fromTextTests, toTextTests, addTests, removeTests, clearTests, findTests, countTests, writeTests}
+use Rattle.book.specs.Calls.{BlockWritten, Replays, Tidies, CountsSound}
+use Rattle.demands.specs.Faults.{InOrder, NameFault, DhcidFault, ListingFault, RowFault, StepFault, LoadFault, fromTextTests, toTextTests, addTests, removeTests, clearTests, findTests, countTests, writeTests, blockTests, replayTests, tidyTests}
 
 -- "bad input gets the refusal number that document 01 fixes" (docs/RULES.md, 2.2 and 8): the call answered a, which is a refusal exactly if its input
 -- is bad, with that number at that offset
@@ -61,3 +62,8 @@ pub record Demand1 : Type 0 where
   pub count : (b : List ℕ) (a : Answer) → Counts 64 b a → Refuses (InOrder (countTests b)) a
   pub write : (b out : List ℕ) (a : Answer) (left : List ℕ) → Writes 64 b out a left → Refuses (InOrder (writeTests b out)) a × Unchanged out left a
   pub load : (t area : List ℕ) (a : Answer) (left : List ℕ) → Loads 65536 64 t area a left → Refuses (LoadFault t area) a × Unchanged area left a
+  pub block : (b name : List ℕ) (i : ℕ) (out : List ℕ) (a : Answer) (left : List ℕ) → BlockWritten 64 b name i out a left → Refuses (InOrder (blockTests b name out)) a × Unchanged out left a
+  pub replay : (book area : List ℕ) (a : Answer) (left : List ℕ) → Replays 64 book area a left → Refuses (InOrder (replayTests book area)) a × Unchanged area left a
+  pub tidy : (book out : List ℕ) (a : Answer) (left : List ℕ) → Tidies 64 book out a left → Refuses (InOrder (tidyTests book out)) a × Unchanged out left a
+  -- to this call no input is bad
+  pub sound : (book : List ℕ) (a : Answer) → CountsSound 64 book a → Refuses (InOrder []) a

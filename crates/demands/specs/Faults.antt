@@ -2,7 +2,7 @@
 -- a row of numbers it stands here as a row of tests, and the first one that fails decides (base, specs/Order.antt); the orders inside a message and
 -- inside a listing are those of the definitions that are named. The offset, document 01's place (docs/RULES.md, 1.3), is 0 but for a listing's faulty
 -- entry.
-use Prim.Native.Nat.{ℕ, _+_, _≤_, _<_}
+use Prim.Native.Nat.{ℕ, _+_, _*_, _≤_, _<_}
 use mathlib.Core.Path.{_≡_}
 use mathlib.Core.Logic.{_⊎_}
 use mathlib.Core.List.{List, [], _∷_, _++_}
@@ -10,7 +10,7 @@ use mathlib.Core.Option.{none, some}
 use lib.ListN.{length}
 use Rattle.base.specs.Family.{KnownFamily}
 use Rattle.base.specs.Order.{Test, FirstFault}
-use Rattle.base.specs.Refusal.{noProperName, outputShort, hashInputLong, heldByAnother, keptByHand, tableFull, nameNotHeld, addressDiffers, tableNotSound}
+use Rattle.base.specs.Refusal.{noProperName, outputShort, hashInputLong, heldByAnother, keptByHand, tableFull, nameNotHeld, addressDiffers, tableNotSound, wrongCheck, wrongField, blockLength}
 use Rattle.name.specs.Name.{Proper, SpellsName, canonical}
 use Rattle.message.specs.Request.{identifierBytes}
 use Rattle.message.specs.declared.Request.{Request}
@@ -25,6 +25,8 @@ use Rattle.table.specs.Steps.{find}
 use Rattle.table.specs.Calls.{KnownPolicy, nameTests, argumentTests}
 use Rattle.records.specs.Written.{listingOf}
 use Rattle.records.specs.Calls.{loadTests}
+use Rattle.book.specs.Notes.{Note, after}
+use Rattle.book.specs.Books.{Right, Bad, Room, tidied}
 
 -- the first of the tests that fails has the number n; the offset is 0
 abbrev pub InOrder : List Test → ℕ → ℕ → Type 0
@@ -134,3 +136,32 @@ writeTests b out =
 -- Loading: the faults of reading, then 35, 32, and 13 for an area that is too short
 unfoldable pub LoadFault : List ℕ → List ℕ → ℕ → ℕ → Type 0
 LoadFault t area n offset = ListingFault t n offset ⊎ ((rs : List ResourceRecord) × Checked 65536 t (accepted rs) × InOrder (loadTests 64 rs area) n offset)
+
+-- ---- the book of names, for a table of 64 (document 02, K5; docs/RULES.md, 11.3)
+
+-- a name's block: 40, 9, and 13 for an output of fewer than 512 bytes
+abbrev pub blockTests : List ℕ → List ℕ → List ℕ → List Test
+blockTests b name out = nameTests 64 b name ++ record { number = outputShort; holds = 512 ≤ length out } ∷ []
+
+-- a whole book: 44; 42 and 43 for the first bad block (book, specs/Books.antt), whatever stands before or behind it; 40 where after some block more than 64 names stand. A book that is not
+-- right says nothing, so that the test for 40 holds of it; but then a test before it fails
+abbrev pub bookTests : List ℕ → List Test
+bookTests book =
+    record { number = blockLength; holds = (k : ℕ) × (length book ≡ 512 * k) }
+    ∷ record { number = wrongCheck; holds = Bad book wrongCheck → ⊥ }
+    ∷ record { number = wrongField; holds = Bad book wrongField → ⊥ }
+    ∷ record { number = tableNotSound; holds = (cs : List Note) → Right book cs → Room 64 cs } ∷ []
+
+-- replaying: that, and 13 for an area that is too short for a table
+abbrev pub areaTests : List ℕ → List Test
+areaTests area = record { number = outputShort; holds = 19968 ≤ length area } ∷ []
+
+abbrev pub replayTests : List ℕ → List ℕ → List Test
+replayTests book area = bookTests book ++ areaTests area
+
+-- tidying: that, and 13 for an output with less room than the tidied book has bytes
+abbrev pub outTests : List ℕ → List ℕ → List Test
+outTests book out = record { number = outputShort; holds = (cs : List Note) → Right book cs → length (tidied (after cs)) ≤ length out } ∷ []
+
+abbrev pub tidyTests : List ℕ → List ℕ → List Test
+tidyTests book out = bookTests book ++ outTests book out

@@ -1,7 +1,7 @@
 -- What C gets of a call, as the functions of src/lib.rt promise it: what the call itself promises and what the demands say of it, of one and the same answer.
 use Prim.Native.Nat.{ℕ, _≤_}
 use mathlib.Core.Path.{_≡_}
-use mathlib.Core.List.{List}
+use mathlib.Core.List.{List, []}
 use lib.ListN.{length, take}
 use Rattle.base.specs.Answer.{value, forC, Tells, TakenApart, IsAccepted}
 use Rattle.base.specs.declared.Answer.{Answer}
@@ -16,7 +16,8 @@ use Rattle.name_text.specs.Calls.{ReadsText, WritesText}
 use Rattle.table.specs.Calls.{Adds, Removes, Clears, Finds, Counts}
 use Rattle.table.specs.Demand2.{SoundAdd, SoundRemove, SoundClear}
 use Rattle.records.specs.Calls.{Writes, Loads}
-use Rattle.demands.specs.Faults.{InOrder, Of, NameFault, DhcidFault, ListingFault, StepFault, LoadFault, fromTextTests, toTextTests, addTests, removeTests, clearTests, findTests, countTests, writeTests}
+use Rattle.book.specs.Calls.{BlockWritten, Replays, Tidies, CountsSound}
+use Rattle.demands.specs.Faults.{InOrder, Of, NameFault, DhcidFault, ListingFault, StepFault, LoadFault, fromTextTests, toTextTests, addTests, removeTests, clearTests, findTests, countTests, writeTests, blockTests, replayTests, tidyTests}
 use Rattle.demands.specs.Demand1.{Refuses, RefusesStep, Unchanged}
 use Rattle.demands.specs.Demand2.{IsRfc4701, SameTable, AddsClient, RemovesAddress, ClearsName}
 
@@ -76,6 +77,18 @@ WriteTold b out a left = Writes 64 b out a left × Refuses (InOrder (writeTests 
 
 abbrev pub LoadTold : List ℕ → List ℕ → Answer → List ℕ → Type 0
 LoadTold t area a left = Loads 65536 64 t area a left × Refuses (LoadFault t area) a × Unchanged area left a
+
+abbrev pub BlockTold : List ℕ → List ℕ → ℕ → List ℕ → Answer → List ℕ → Type 0
+BlockTold b name i out a left = BlockWritten 64 b name i out a left × Refuses (InOrder (blockTests b name out)) a × Unchanged out left a
+
+abbrev pub ReplayTold : List ℕ → List ℕ → Answer → List ℕ → Type 0
+ReplayTold book area a left = Replays 64 book area a left × Refuses (InOrder (replayTests book area)) a × Unchanged area left a
+
+abbrev pub TidyTold : List ℕ → List ℕ → Answer → List ℕ → Type 0
+TidyTold book out a left = Tidies 64 book out a left × Refuses (InOrder (tidyTests book out)) a × Unchanged out left a
+
+abbrev pub SoundTold : List ℕ → Answer → Type 0
+SoundTold book a = CountsSound 64 book a × Refuses (InOrder []) a
 
 -- the table with the bytes b was written into an output that held `out` and now holds `left`. A refusal of the write is the answer r, and the area is as it was; else as many bytes of the output as
 -- the write's value were loaded into an area that held `area` and now holds `after`, and r was answered to that

@@ -2,6 +2,10 @@
 // have drifted from it: each function calls the one that ships, with whatever it is given. None of this is in the archive. The row call is called with a row of four
 // places, since the borrow checker does not cover a lent row of any length; of every row `demand-3` is about the row call's promise.
 use entry::Record;
+use gateway::vichrelka_book_block;
+use gateway::vichrelka_book_replay;
+use gateway::vichrelka_book_sound;
+use gateway::vichrelka_book_tidy;
 use gateway::vichrelka_dhcid;
 use gateway::vichrelka_listing_check;
 use gateway::vichrelka_name;
@@ -104,6 +108,30 @@ pub fn table_load(table: &mut [u8], text: &[u8]) -> u64
     ensures { λ r. ⌜ spec.ToldC r (λ a. spec.LoadTold (now (text .entry)) (now (table .entry)) a (now (table .exit))) ⌝ }
 {
     vichrelka_table_load(table, text)
+}
+
+pub fn book_block(table: &[u8], name: &[u8], number: u32, out: &mut [u8]) -> u64
+    ensures { λ r. ⌜ spec.ToldC r (λ a. spec.BlockTold (now (table .entry)) (now (name .entry)) number (now (out .entry)) a (now (out .exit))) ⌝ }
+{
+    vichrelka_book_block(table, name, number, out)
+}
+
+pub fn book_replay(table: &mut [u8], book: &[u8]) -> u64
+    ensures { λ r. ⌜ spec.ToldC r (λ a. spec.ReplayTold (now (book .entry)) (now (table .entry)) a (now (table .exit))) ⌝ }
+{
+    vichrelka_book_replay(table, book)
+}
+
+pub fn book_tidy(book: &[u8], out: &mut [u8]) -> u64
+    ensures { λ r. ⌜ spec.ToldC r (λ a. spec.TidyTold (now (book .entry)) (now (out .entry)) a (now (out .exit))) ⌝ }
+{
+    vichrelka_book_tidy(book, out)
+}
+
+pub fn book_sound(book: &[u8]) -> u64
+    ensures { λ r. ⌜ spec.ToldC r (λ a. spec.SoundTold (now (book .entry)) a) ⌝ }
+{
+    vichrelka_book_sound(book)
 }
 
 // A table written as a listing, and that listing loaded into another area.

@@ -1,6 +1,8 @@
 // The library's calls for C, one function each and thin: include/vichrelka.h says how C declares them, and what each answers. A slice is a pointer
 // and a length; what C owes for it is in docs/TRUST.md.
+use base::Answer;
 ghost use Rattle.base.specs.Answer.{Tells};
+ghost use Rattle.book.specs.Calls.{BlockWritten, Replays, Tidies, CountsSound};
 ghost use Rattle.listing.specs.Reading.{limit, Checks};
 ghost use Rattle.dhcid.specs.Chosen.{Names};
 ghost use Rattle.dhcid.specs.Dhcid as request;
@@ -125,4 +127,42 @@ pub extern "C" fn vichrelka_table_load(table: &mut [u8], text: &[u8]) -> u64
     ensures { λ r. ⌜ Tells r (λ a. Loads limit mostNames (now (text .entry)) (now (table .entry)) a (now (table .exit))) ⌝ }
 {
     table_load::load(table, text).for_c()
+}
+
+// uint64_t vichrelka_book_block(const uint8_t *table, size_t table_len, const uint8_t *name, size_t name_len, uint32_t number,
+//                               uint8_t *out, size_t out_len)
+#[no_mangle]
+pub extern "C" fn vichrelka_book_block(
+    table: &[u8],
+    name: &[u8],
+    number: u32,
+    out: &mut [u8],
+) -> u64
+    ensures { λ r. ⌜ Tells r (λ a. BlockWritten mostNames (now (table .entry)) (now (name .entry)) number (now (out .entry)) a (now (out .exit))) ⌝ }
+{
+    book_block::write(table, name, number, out).for_c()
+}
+
+// uint64_t vichrelka_book_replay(uint8_t *table, size_t table_len, const uint8_t *book, size_t book_len)
+#[no_mangle]
+pub extern "C" fn vichrelka_book_replay(table: &mut [u8], book: &[u8]) -> u64
+    ensures { λ r. ⌜ Tells r (λ a. Replays mostNames (now (book .entry)) (now (table .entry)) a (now (table .exit))) ⌝ }
+{
+    book_replay::replay(table, book).for_c()
+}
+
+// uint64_t vichrelka_book_tidy(const uint8_t *book, size_t book_len, uint8_t *out, size_t out_len)
+#[no_mangle]
+pub extern "C" fn vichrelka_book_tidy(book: &[u8], out: &mut [u8]) -> u64
+    ensures { λ r. ⌜ Tells r (λ a. Tidies mostNames (now (book .entry)) (now (out .entry)) a (now (out .exit))) ⌝ }
+{
+    book_replay::tidy(book, out).for_c()
+}
+
+// uint64_t vichrelka_book_sound(const uint8_t *book, size_t book_len)
+#[no_mangle]
+pub extern "C" fn vichrelka_book_sound(book: &[u8]) -> u64
+    ensures { λ r. ⌜ Tells r (λ a. CountsSound mostNames (now (book .entry)) a) ⌝ }
+{
+    Answer::Accepted(book_replay::sound_blocks(book)).for_c()
 }

@@ -2,12 +2,12 @@
 // message's. Each step takes the state by value and hands it on: 104 bytes, no heap.
 mod padding;
 
+use base::number::to_be32;
 use base::slice::put;
 use padding::padding_bytes;
 use padding::padding_length;
 use sha256_block::compress;
 ghost use mathlib.Core.Path.{_≡_};
-ghost use Rattle.base.specs.Bytes.{bigEndian};
 ghost use Rattle.hash.specs.Sha256 as spec;
 ghost use Rattle.hash.specs.State.{blocks, Begins, Takes};
 
@@ -36,18 +36,6 @@ fn absorb(h: [u32; 8], bytes: &[u8]) -> [u32; 8]
         i += 1;
     }
     s
-}
-
-// The bytes of a word, the highest first.
-fn to_bytes(x: u32) -> [u8; 4]
-    ensures { λ r. ⌜ r ≡ bigEndian 4 x ⌝ }
-{
-    [
-        ((x >> 24) % 256) as u8,
-        ((x >> 16) % 256) as u8,
-        ((x >> 8) % 256) as u8,
-        (x % 256) as u8,
-    ]
 }
 
 pub struct Sha256 {
@@ -117,7 +105,7 @@ impl Sha256 {
         let mut bytes = [0u8; 32];
         let mut i: usize = 0;
         while i < 8 {
-            let w = to_bytes(words[i]);
+            let w = to_be32(words[i]);
             put(&mut bytes, 4 * i, &w);
             i += 1;
         }

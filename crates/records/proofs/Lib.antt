@@ -1,4 +1,3 @@
-pub mod AreaLaws
 pub mod DataLaws
 pub mod OwnerLaws
 pub mod MappedLaws

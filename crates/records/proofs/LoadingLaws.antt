@@ -11,6 +11,7 @@ use Rattle.base.specs.Order.{AllHold, FirstFault}
 use Rattle.base.specs.declared.Answer.{Answer}
 use Rattle.base.specs.declared.Answer.the-variants.{Accepted, Refused}
 use Rattle.base.proofs.AnswerLaws.{accepted≢refused}
+use Rattle.base.proofs.Bytes.{taken-back}
 use Rattle.base.proofs.Theorems.{one-fault, no-fault}
 use Rattle.grammar.specs.Listing.{ResourceRecord, Spells}
 use Rattle.grammar.specs.Faults.{WordFault, Faulty}
@@ -23,7 +24,6 @@ use Rattle.slots.proofs.TableLaws.{length-table}
 use Rattle.records.specs.Gathered.{Single, tableOf}
 use Rattle.records.specs.Calls.{loadTests, Loads}
 use Rattle.records.proofs.SoundLaws.{table-distinct, table-is}
-use Rattle.records.proofs.AreaLaws.{taken-back}
 
 -- ---- no refusal has the number 0
 

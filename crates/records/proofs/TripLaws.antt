@@ -7,6 +7,7 @@ use lib.ListN.{length, take, drop, length-map}
 use Rattle.base.specs.Answer.{number, value}
 use Rattle.base.specs.Bytes.{overlay}
 use Rattle.base.specs.Logic.{Every}
+use Rattle.base.proofs.Bytes.{taken-back, left-behind}
 use Rattle.base.proofs.Lists.{every-take}
 use Rattle.base.specs.Order.{AllHold}
 use Rattle.base.specs.declared.Answer.{Answer}
@@ -24,7 +25,6 @@ use Rattle.records.proofs.RoundLaws.{owners-again, single-again, table-
 use Rattle.records.proofs.SameLaws.{same-owners, same-data}
 use Rattle.records.proofs.WrittenLaws.{listing-spells}
 use Rattle.records.proofs.LengthLaws.{listing-most}
-use Rattle.records.proofs.AreaLaws.{taken-back, left-behind}
 use Rattle.records.proofs.WritingLaws.{text-written}
 use Rattle.records.proofs.LoadingLaws.{was-loaded, filled}
 

@@ -9,11 +9,11 @@ use Rattle.base.specs.Bytes.{overlay}
 use Rattle.base.specs.declared.Answer.{Answer}
 use Rattle.base.specs.declared.Answer.the-variants.{Accepted, Refused}
 use Rattle.base.proofs.AnswerLaws.{accepted≢refused}
+use Rattle.base.proofs.Bytes.{taken-back}
 use Rattle.slots.specs.Form.{Sound}
 use Rattle.slots.proofs.Theorems.{one-sound-table}
 use Rattle.records.specs.Written.{listingOf}
 use Rattle.records.specs.Calls.{Writes}
-use Rattle.records.proofs.AreaLaws.{taken-back}
 
 module _ (places : ℕ) (b out : List ℕ) where
   -- whoever finds b sound writes the same listing

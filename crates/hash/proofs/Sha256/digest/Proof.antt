@@ -20,14 +20,14 @@ loop-holds : tie.Need-loop-holds Inv-loop μ-loop
 unfolding inBytes
 loop-holds c = (omega arith, refl, refl)
 
-mul-to-bytes : tie.Need-mul-to-bytes Inv-loop μ-loop
-mul-to-bytes c = omega arith
+mul-to-be32 : tie.Need-mul-to-be32 Inv-loop μ-loop
+mul-to-be32 c = omega arith
 
-array-read-to-bytes : tie.Need-array-read-to-bytes Inv-loop μ-loop
-array-read-to-bytes c = omega arith
+array-read-to-be32 : tie.Need-array-read-to-be32 Inv-loop μ-loop
+array-read-to-be32 c = omega arith
 
-to-bytes-requires : tie.Need-to-bytes-requires Inv-loop μ-loop
-to-bytes-requires c κs = search needs
+to-be32-requires : tie.Need-to-be32-requires Inv-loop μ-loop
+to-be32-requires c κs = search needs
 
 slice-aggregate-put : tie.Need-slice-aggregate-put Inv-loop μ-loop
 slice-aggregate-put c = search needs
@@ -40,7 +40,7 @@ slice-aggregate-put-2 c = search needs
 
 put-requires : tie.Need-put-requires Inv-loop μ-loop
 put-requires c κs =
-    let four : length (c .before .before .to-bytes .result) ≡ 4 = search needs in
+    let four : length (c .before .before .to-be32 .result) ≡ 4 = search needs in
     omega arith
 
 add-i : tie.Need-add-i Inv-loop μ-loop
@@ -53,11 +53,11 @@ loop-again : tie.Need-loop-again Inv-loop μ-loop
 loop-again c =
     let l = c .before .before .before .before .before .before .loop in
     let words = c .before .before .before .before .before .before .before .before .args .self .words in
-    let four : length (c .before .before .before .before .to-bytes .result) ≡ 4 = search needs in
+    let four : length (c .before .before .before .before .to-be32 .result) ≡ 4 = search needs in
     let eight : length words ≡ 8 = search needs in (
       omega arith,
       c .before .put .kept .0 ∙ l .inv .1,
-      in-bytes-more 4 words (l .bytes) _ _ (l .i) (c .before .put .ensures) (c .before .before .before .before .to-bytes .ensures) (l .inv .2) (omega arith) (omega arith),
+      in-bytes-more 4 words (l .bytes) _ _ (l .i) (c .before .put .ensures) (c .before .before .before .before .to-be32 .ensures) (l .inv .2) (omega arith) (omega arith),
     )
 
 returns : tie.Need-returns Inv-loop μ-loop
@@ -75,9 +75,9 @@ digest-spec =
     Inv-loop
     μ-loop
     loop-holds
-    mul-to-bytes
-    array-read-to-bytes
-    to-bytes-requires
+    mul-to-be32
+    array-read-to-be32
+    to-be32-requires
     slice-aggregate-put
     mul-put
     slice-aggregate-put-2

@@ -1,8 +1,8 @@
 use native.Mathlib.Nat.{div-one}
 use Rattle.base.specs.Bytes.{bigEndian}
 use borrow.Author.Needs.{needs}
-use Rattle.hash.proofs.to_bytes.Statement.{statement}
-use Rattle.hash.proofs.to_bytes.Tie as tie
+use Rattle.base.proofs.number.to_be32.Statement.{statement}
+use Rattle.base.proofs.number.to_be32.Tie as tie
 
 cast-t4 : tie.Need-cast-t4
 cast-t4 c = search needs
@@ -20,5 +20,5 @@ returns : tie.Need-returns
 unfolding bigEndian
 returns c = simp div-one
 
-pub to-bytes-spec : {M : Type 1} → statement M
-to-bytes-spec = tie.close (tie.spec cast-t4 cast-t7 cast-t10 cast-t12 returns)
+pub to-be32-spec : {M : Type 1} → statement M
+to-be32-spec = tie.close (tie.spec cast-t4 cast-t7 cast-t10 cast-t12 returns)

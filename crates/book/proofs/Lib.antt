@@ -1,0 +1,16 @@
+pub mod NoteLaws
+pub mod MoreLaws
+pub mod EffectLaws
+pub mod BlockLaws
+pub mod DecideLaws
+pub mod BookLaws
+pub mod PrefixLaws
+pub mod SoundLaws
+pub mod TidyLaws
+pub mod TornLaws
+pub mod StoredLaws
+pub mod CallLaws
+pub mod StepLaws
+pub mod FreshLaws
+pub mod TidiedLaws
+pub mod Theorems

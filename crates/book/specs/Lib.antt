@@ -1,0 +1,5 @@
+pub mod Notes
+pub mod Blocks
+pub mod Books
+pub mod Calls
+pub mod LastNote

@@ -1,0 +1,9 @@
+pub mod KeptLaws
+pub mod HeadLaws
+pub mod SeenLaws
+pub mod MovedLaws
+pub mod TurnLaws
+pub mod SoughtLaws
+pub mod SoundLaws
+pub mod WholeLaws
+pub mod WrittenLaws
