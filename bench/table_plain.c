@@ -1,7 +1,6 @@
 /* The table of names in ordinary C: the slots as a struct, the C library's memcmp, memcpy and memmove, each pair of names compared. */
 #include "table_plain.h"
 
-#include <stdbool.h>
 #include <string.h>
 
 _Static_assert(sizeof(struct slot) == VICHRELKA_SLOT_LEN, "a slot is as the header says");
@@ -40,9 +39,9 @@ static bool proper(const uint8_t *name, size_t len)
     return at > 0 && at + 1 == len;
 }
 
-static bool slot_sound(const struct slot *s)
+bool fields_sound(const struct slot *s)
 {
-    return proper(s->name, s->len) && zeros(s->name + s->len, NAME_LIMIT - s->len) && s->flags >= 1 && s->flags <= 7 &&
+    return proper(s->name, s->len) && zeros(s->name + s->len, NAME_LIMIT - s->len) && s->flags <= 7 &&
            (s->flags & HAS_A || zeros(s->a, sizeof s->a)) && (s->flags & HAS_AAAA || zeros(s->aaaa, sizeof s->aaaa)) &&
            (s->flags & HAS_DHCID ? proper_dhcid(s->dhcid) : zeros(s->dhcid, sizeof s->dhcid));
 }
@@ -55,7 +54,7 @@ int count_sound(const struct slot *slots, size_t table_len)
     if (table_len != VICHRELKA_TABLE_LEN)
         return -1;
     for (; count < VICHRELKA_TABLE_NAMES && slots[count].len != 0; count++) {
-        if (!slot_sound(&slots[count]))
+        if (slots[count].flags == 0 || !fields_sound(&slots[count]))
             return -1;
         for (int i = 0; i < count; i++)
             if (holds(&slots[i], slots[count].name, slots[count].len))

@@ -16,6 +16,10 @@
 #define ARGUMENTS_vichrelka_table_count (lent, 1)
 #define ARGUMENTS_vichrelka_table_write (lent, 1, lent, 1)
 #define ARGUMENTS_vichrelka_table_load (lent, 1, lent, 1)
+#define ARGUMENTS_vichrelka_book_block (lent, 1, lent, 1, 0, lent, 1)
+#define ARGUMENTS_vichrelka_book_replay (lent, 1, lent, 1)
+#define ARGUMENTS_vichrelka_book_tidy (lent, 1, lent, 1)
+#define ARGUMENTS_vichrelka_book_sound (lent, 1)
 #define ARGUMENTS_OF(call) ARGUMENTS_##call
 #define ARGUMENTS(call) ARGUMENTS_OF(call)
 

@@ -69,6 +69,8 @@ static int wrong_numbers(void)
     wrong |= VICHRELKA_REFUSED_HASH_INPUT_LONG != 14 || VICHRELKA_SOURCE_MESSAGE != 0 || VICHRELKA_SOURCE_SITE != 1;
     wrong |= VICHRELKA_IPV4 != 4 || VICHRELKA_IPV6 != 6 || VICHRELKA_SITE_ONLY != 0 || VICHRELKA_CLIENT_FIRST != 1;
     wrong |= VICHRELKA_NAME_TEXT_LIMIT != 254;
+    wrong |= VICHRELKA_REFUSED_WRONG_CHECK != 42 || VICHRELKA_REFUSED_WRONG_FIELD != 43 || VICHRELKA_REFUSED_BLOCK_LENGTH != 44;
+    wrong |= VICHRELKA_BLOCK_LEN != 512 || VICHRELKA_TIDIED_LIMIT != 32768;
 
     wrong |= vichrelka_name_source(chosen) != 1 || vichrelka_name_start(chosen) != 300 || vichrelka_name_len(chosen) != 18;
     wrong |= vichrelka_name_source(accepted) != 3 || vichrelka_name_start(accepted) != 0x3fffff || vichrelka_name_len(accepted) != 255;
@@ -82,7 +84,7 @@ static int says(uint32_t number, const char *words)
     return strcmp(vichrelka_refusal_text(number), words) == 0;
 }
 
-/* Every number has a text, and no two refusals have the same. 10, 18, 19, 23 and 25 are no refusals of a call for C. */
+/* Every number has a text, and no two refusals have the same. 10, 18, 19, 23, 25 and 41 are no refusals of a call for C. */
 static int wrong_texts(void)
 {
     uint32_t number, other;
@@ -93,9 +95,9 @@ static int wrong_texts(void)
         for (other = 0; other < number; other++)
             wrong |= !says(number, "unknown refusal") && says(number, vichrelka_refusal_text(other));
     }
-    wrong |= known != 28 || !says(0, "accepted") || !says(VICHRELKA_REFUSED_HELD_BY_ANOTHER, "another client holds the name");
+    wrong |= known != 31 || !says(0, "accepted") || !says(VICHRELKA_REFUSED_HELD_BY_ANOTHER, "another client holds the name");
     wrong |= !says(10, "unknown refusal") || !says(18, "unknown refusal") || !says(19, "unknown refusal") || !says(23, "unknown refusal");
-    wrong |= !says(25, "unknown refusal") || !says(0xffffffffu, "unknown refusal");
+    wrong |= !says(25, "unknown refusal") || !says(41, "unknown refusal") || !says(0xffffffffu, "unknown refusal");
     return wrong;
 }
 
@@ -211,6 +213,47 @@ static int wrong_tables_as_listings(void)
     return wrong;
 }
 
+/* The block of a name of the table, as block number `number` of the book */
+static uint64_t block(const uint8_t *table, const uint8_t *name, size_t name_len, uint32_t number, uint8_t *book)
+{
+    return vichrelka_book_block(table, VICHRELKA_TABLE_LEN, name, name_len, number, book + number * VICHRELKA_BLOCK_LEN, VICHRELKA_BLOCK_LEN);
+}
+
+/* Document 02, K5: the two names of the listing as a book, and then a block by which the first one is gone. The checks are from Python's hashlib. */
+static int wrong_books(void)
+{
+    enum { BLOCK = VICHRELKA_BLOCK_LEN, CHECK = 480 };
+    static uint8_t table[VICHRELKA_TABLE_LEN], again[VICHRELKA_TABLE_LEN], book[3 * BLOCK], tidied[VICHRELKA_TIDIED_LIMIT];
+    static const uint8_t first[] = {6, 'T', 'A', 'N', 'K', '-', 'a', 7, 'e', 'x', 'a', 'm', 'p', 'l', 'e', 3, 'c', 'o', 'm', 0};
+    static const uint8_t second[] = {6, 'c', 'l', 'i', 'e', 'n', 't', 7, 'e', 'x', 'a', 'm', 'p', 'l', 'e', 3, 'c', 'o', 'm', 0};
+    static const uint8_t stands[] = {0xf3, 0x83, 0x28, 0x3a, 0x68, 0x3c, 0x2b, 0xbd}, gone[] = {0x93, 0xbf, 0x6e, 0x04, 0x80, 0x7a, 0x2e, 0x8f};
+    int wrong = load(table, sizeof table, LISTING) != 0;
+
+    wrong |= block(table, first, sizeof first, 0, book) != (uint64_t)BLOCK << 32 || block(table, second, sizeof second, 1, book) != (uint64_t)BLOCK << 32;
+    wrong |= book[3] != 0 || book[4] != 1 || memcmp(book + 5, table, VICHRELKA_SLOT_LEN) != 0 || memcmp(book + CHECK, stands, sizeof stands) != 0;
+    wrong |= vichrelka_book_replay(again, sizeof again, book, 2 * BLOCK) != 0 || memcmp(again, table, sizeof table) != 0;
+    wrong |= vichrelka_table_clear(table, sizeof table, first, sizeof first) != 0;
+    wrong |= block(table, first, sizeof first, 2, book) != (uint64_t)BLOCK << 32;
+    wrong |= book[2 * BLOCK + 3] != 2 || book[2 * BLOCK + 4] != 0 || memcmp(book + 2 * BLOCK + CHECK, gone, sizeof gone) != 0;
+    wrong |= vichrelka_book_sound(book, sizeof book) != (uint64_t)3 << 32 || vichrelka_book_sound(book, sizeof book - 1) != (uint64_t)2 << 32;
+    wrong |= vichrelka_book_replay(again, sizeof again, book, sizeof book) != 0 || memcmp(again, table, sizeof table) != 0;
+    wrong |= vichrelka_book_tidy(book, sizeof book, tidied, sizeof tidied) != (uint64_t)BLOCK << 32;
+    wrong |= tidied[3] != 0 || tidied[4] != 1 || memcmp(tidied + 5, table, VICHRELKA_SLOT_LEN) != 0;
+
+    wrong |= vichrelka_book_replay(again, sizeof again, book, sizeof book - 1) != VICHRELKA_REFUSED_BLOCK_LENGTH;
+    wrong |= vichrelka_book_replay(again, sizeof again, book + BLOCK, BLOCK) != VICHRELKA_REFUSED_WRONG_FIELD;
+    wrong |= vichrelka_book_replay(again, sizeof again - 1, book, sizeof book) != VICHRELKA_REFUSED_OUTPUT_SHORT;
+    wrong |= vichrelka_book_tidy(book, sizeof book, tidied, BLOCK - 1) != VICHRELKA_REFUSED_OUTPUT_SHORT;
+    book[CHECK - 1] = 1;
+    wrong |= vichrelka_book_tidy(book, sizeof book, NULL, 0) != VICHRELKA_REFUSED_WRONG_CHECK || vichrelka_book_sound(book, sizeof book) != 0;
+    wrong |= memcmp(again, table, sizeof table) != 0;
+    wrong |= vichrelka_book_block(table, sizeof table, first, sizeof first - 1, 0, book, BLOCK) != VICHRELKA_REFUSED_NO_PROPER_NAME;
+    wrong |= vichrelka_book_block(table, sizeof table - 1, first, sizeof first, 0, book, BLOCK) != VICHRELKA_REFUSED_TABLE_NOT_SOUND;
+    wrong |= vichrelka_book_block(table, sizeof table, first, sizeof first, 0, book, BLOCK - 1) != VICHRELKA_REFUSED_OUTPUT_SHORT;
+    wrong |= vichrelka_book_replay(again, sizeof again, NULL, 0) != 0 || again[0] != 0 || vichrelka_book_sound(NULL, 0) != 0;
+    return wrong;
+}
+
 /* An answer kept in an int, which no compiler warns of unasked: a refusal is still told, and a value is 0 at the first try. */
 static int wrong_slips(void)
 {
@@ -236,5 +279,5 @@ static int wrong_slips(void)
 int main(void)
 {
     return wrong_numbers() | wrong_texts() | wrong_names() | wrong_requests() | wrong_listings() | wrong_tables() | wrong_finds()
-           | wrong_tables_as_listings() | wrong_slips();
+           | wrong_tables_as_listings() | wrong_books() | wrong_slips();
 }

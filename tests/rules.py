@@ -5,6 +5,7 @@
     refusals   section 2.2 has the numbers of the header, and 25, which no call for C gives
     calls      section 8.2 has the calls of the header
     slot       section 7.2 has the sizes and the offsets of the header
+    block      section 11.1 has a block of the header's length, with the slot of section 7.2 behind number and kind
     lines      no line is longer than 119 characters
 """
 
@@ -12,7 +13,7 @@ import os
 import re
 import subprocess
 import sys
-from typing import Callable, Dict, List
+from typing import Callable, Dict, List, Tuple
 
 RULES, HEADER = "docs/RULES.md", "include/vichrelka.h"
 NUMBERS = r"\d+(?:\.\d+)?(?:(?:,| and|, and| to) \d+(?:\.\d+)?)*"
@@ -81,10 +82,20 @@ def calls(files: Files) -> List[str]:
     return ["the call %s is in the header alone, or in section 8.2" % name for name in sorted(rules ^ header)]
 
 
+def sizes_of(files: Files) -> Dict[str, int]:
+    """The constants of the header that are plain numbers."""
+    return {name: int(value) for name, value in re.findall(r"^#define VICHRELKA_(\w+) (\d+)$", files[HEADER], re.M)}
+
+
+def fields_of(text: str) -> List[Tuple[int, int, str]]:
+    """Of a table of bytes: offset, size and content of each field."""
+    return [(int(at), int(size), what) for at, size, what in re.findall(r"^\| (\d+) \| (\d+) \| (.*) \|$", text, re.M)]
+
+
 def slot(files: Files) -> List[str]:
-    defined = {name: int(value) for name, value in re.findall(r"^#define VICHRELKA_(\w+) (\d+)$", files[HEADER], re.M)}
+    defined = sizes_of(files)
     text = section(files[RULES], "7.2")
-    fields = [(int(at), int(size), what) for at, size, what in re.findall(r"^\| (\d+) \| (\d+) \| (.*) \|$", text, re.M)]
+    fields = fields_of(text)
     wrong = [] if len(fields) == 6 else ["section 7.2 has %d fields" % len(fields)]
     end = 0
     for (at, size, what), name in zip(fields, ["", "SLOT_NAME", "SLOT_FLAGS", "SLOT_A", "SLOT_AAAA", "SLOT_DHCID"]):
@@ -99,11 +110,27 @@ def slot(files: Files) -> List[str]:
     return wrong
 
 
+def block(files: Files) -> List[str]:
+    fields = fields_of(section(files[RULES], "11.1"))
+    wrong, end = [], 0
+    for at, size, what in fields:
+        if at != end:
+            wrong.append("a field of section 11.1 is not behind the one before: " + what)
+        end = at + size
+    if end != sizes_of(files)["BLOCK_LEN"]:
+        wrong.append("section 11.1 has %d bytes, and the header another number" % end)
+    if [size for _, size, _ in fields[2:8]] != [size for _, size, _ in fields_of(section(files[RULES], "7.2"))]:
+        wrong.append("section 11.1 does not have the fields of section 7.2 from the third on")
+    if fields and fields[-1][:2] != (480, 32):
+        wrong.append("section 11.1 does not end in a check of 32 bytes from byte 480 on")
+    return wrong
+
+
 def lines(files: Files) -> List[str]:
     return ["line %d has %d characters" % (number + 1, len(line)) for number, line in enumerate(files[RULES].split("\n")) if len(line) > 119]
 
 
-CHECKS: List[Callable[[Files], List[str]]] = [cited, named, refusals, calls, slot, lines]
+CHECKS: List[Callable[[Files], List[str]]] = [cited, named, refusals, calls, slot, block, lines]
 
 # What each check has to tell: a file, the text that is there, and what is put in its place
 PLANTED = [
@@ -121,6 +148,10 @@ PLANTED = [
     (slot, HEADER, "VICHRELKA_SLOT_A 257", "VICHRELKA_SLOT_A 258"),
     (slot, RULES, "19,968 bytes (D). Names", "19,986 bytes (D). Names"),
     (slot, HEADER, "VICHRELKA_TABLE_NAMES 64", "VICHRELKA_TABLE_NAMES 65"),
+    (block, RULES, "| 317 | 163 |", "| 317 | 162 |"),
+    (block, RULES, "| 6 | 255 |", "| 7 | 254 |"),
+    (block, RULES, "| 480 | 32 |", "| 448 | 64 |"),
+    (block, HEADER, "VICHRELKA_BLOCK_LEN 512", "VICHRELKA_BLOCK_LEN 511"),
     (lines, RULES, "# The rules\n", "# The rules" + "!" * 119 + "\n"),
 ]
 

@@ -3,7 +3,7 @@
 # shellcheck shell=bash
 
 out=target/fuzz
-common=(tests/lend.c bench/table_plain.c bench/load_plain.c bench/sha256_plain.c tests/fuzz/message_plain.c tests/fuzz/listing_plain.c
+common=(tests/lend.c bench/table_plain.c bench/load_plain.c bench/book_plain.c bench/sha256_plain.c tests/fuzz/message_plain.c tests/fuzz/listing_plain.c
   tests/fuzz/name_text_plain.c tests/fuzz/fuzz.c)
 
 stop() {

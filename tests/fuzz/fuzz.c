@@ -25,6 +25,69 @@ struct bytes take_slice(struct input *in, size_t len)
     return slice;
 }
 
+size_t small_name(uint8_t choice, uint8_t *name)
+{
+    size_t len = 0;
+    for (int i = choice >> 6; i > 0; i--) {
+        name[len++] = LABEL_LIMIT;
+        memset(name + len, 'l', LABEL_LIMIT);
+        len += LABEL_LIMIT;
+    }
+    size_t label = choice >> 6 == 3 ? 61 : 1;
+    name[len++] = (uint8_t)label;
+    memset(name + len, 'a', label);
+    name[len + label - 1] = "abcdefghijklmnopqrstuvwxyz0123456789-_ABCDEFGHIJKLMNOPQRSTUVWXYZ"[choice & 63];
+    len += label;
+    name[len++] = 0;
+    return len;
+}
+
+void small_dhcid(uint8_t choice, uint8_t *dhcid)
+{
+    memset(dhcid, choice >> 2, VICHRELKA_DHCID_LEN);
+    dhcid[0] = 0;
+    dhcid[1] = choice & 3; /* 3 is none */
+    dhcid[2] = 1;
+}
+
+void take_slot(struct input *in, struct slot *s)
+{
+    memset(s, 0, sizeof *s);
+    s->len = (uint8_t)small_name(take(in), s->name);
+    s->flags = take(in);
+    if (s->flags & HAS_A)
+        memset(s->a, take(in), sizeof s->a);
+    if (s->flags & HAS_AAAA)
+        memset(s->aaaa, take(in), sizeof s->aaaa);
+    if (s->flags & HAS_DHCID)
+        small_dhcid(take(in), s->dhcid);
+}
+
+struct slot numbered_slot(size_t number)
+{
+    struct slot s = {.flags = HAS_A | HAS_DHCID};
+    s.len = (uint8_t)small_name((uint8_t)(number % 38 | number / 38 << 6), s.name);
+    s.a[3] = (uint8_t)number;
+    small_dhcid((uint8_t)(number << 2), s.dhcid);
+    return s;
+}
+
+struct bytes take_name(struct input *in, const uint8_t *table, uint8_t *room)
+{
+    uint8_t choice = take(in), which = take(in);
+    if (choice & 1) {
+        const struct slot *s = (const struct slot *)table + which % VICHRELKA_TABLE_NAMES;
+        memcpy(room, s->name, s->len);
+        for (size_t i = 0; i < s->len; i++)
+            if (choice & 2 && room[i] >= 'a' && room[i] <= 'z')
+                room[i] = (uint8_t)(room[i] - 'a' + 'A');
+        return (struct bytes){room, s->len, 0};
+    }
+    if (choice & 2)
+        return take_slice(in, choice & 4 ? 256 : which);
+    return (struct bytes){room, small_name(which, room), 0};
+}
+
 int same(const uint8_t *one, const uint8_t *other, size_t len)
 {
     return len == 0 || memcmp(one, other, len) == 0;
@@ -37,7 +100,8 @@ void differ(const char *call, const char *what, uint64_t library, uint64_t plain
 }
 
 const char *const CALL_NAMES[CALLS] = {"name",  "dhcid", "check", "load",  "add",       "remove",
-                                       "clear", "write", "find",  "count", "from text", "to text"};
+                                       "clear", "write", "find",  "count", "from text", "to text",
+                                       "block", "replay", "tidy", "sound"};
 uint64_t answers[CALLS][NUMBERS];
 
 void count(enum call call, uint64_t answer)

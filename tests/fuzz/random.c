@@ -379,13 +379,13 @@ static void make_listing(void)
 enum { PUT, SLOT, FILL, LENGTH, FIRST_CALL, CLEAR_CALL = FIRST_CALL + 2, WRITE_CALL, LOAD_CALL, FIND_CALL, COUNT_CALL, STEPS };
 
 /* A small name's choice: proper, in lower case, and seldom one that FILL has as well */
-static uint8_t small_name(void)
+static uint8_t name_choice(void)
 {
     return (uint8_t)(chance(38) | (one_in(8) ? chance(4) : 2 + chance(2)) << 6);
 }
 
 /* seldom with the type 3, which is none */
-static uint8_t small_dhcid(void)
+static uint8_t dhcid_choice(void)
 {
     return (uint8_t)(chance(64) << 2 | (one_in(40) ? 3 : chance(3)));
 }
@@ -399,11 +399,11 @@ static void put_start(void)
     for (uint32_t slots = chance(6); slots > 0; slots--) {
         uint8_t flags = (uint8_t)(one_in(400) ? chance(256) : 1 + chance(7));
         put(SLOT);
-        put(small_name());
+        put(name_choice());
         put(flags);
         put_random((flags & HAS_A ? 1 : 0) + (flags & HAS_AAAA ? 1 : 0));
         if (flags & HAS_DHCID)
-            put(small_dhcid());
+            put(dhcid_choice());
     }
 }
 
@@ -452,7 +452,7 @@ static void put_asked_name(uint8_t which)
     } else {
         int is_slot = !one_in(3);
         put((uint8_t)(is_slot ? 1 | chance(2) << 1 : 0));
-        put(is_slot ? which : small_name());
+        put(is_slot ? which : name_choice());
     }
 }
 
@@ -488,13 +488,13 @@ static void put_call(uint32_t step)
         static const uint8_t LENGTHS[] = {0, 3, 4, 5, 15, 16, 17};
         uint8_t address_len = LENGTHS[chance(sizeof LENGTHS)];
         put((uint8_t)(is_holder | family | 16 | 32));
-        put(is_holder ? which : small_dhcid());
+        put(is_holder ? which : dhcid_choice());
         put(address_len);
         put_random(address_len);
         return;
     }
     put((uint8_t)(is_holder | family | (is_held ? 8 : 0)));
-    put(is_holder ? which : small_dhcid());
+    put(is_holder ? which : dhcid_choice());
     if (!is_held)
         put((uint8_t)chance(256));
 }
@@ -556,6 +556,134 @@ static void make_name_text(void)
     input[0] = (uint8_t)(room < 255 ? room : 255);
 }
 
+/* Books: the steps are book.c's. */
+
+enum { STAND, GO, COME_MANY, GO_MANY, CHANGE, CUT, BYTES, REPLAY_STEP, TIDY_STEP, SOUND_STEP, BLOCK_STEP };
+
+/* The names that stand, by their choices */
+static uint8_t standing[256];
+static uint32_t stand_count;
+
+static void note(uint8_t choice, int stands)
+{
+    uint32_t i = 0;
+    while (i < stand_count && standing[i] != choice)
+        i++;
+    if (stands && i == stand_count)
+        standing[stand_count++] = choice;
+    else if (!stands && i < stand_count)
+        memmove(standing + i, standing + i + 1, --stand_count - i);
+}
+
+/* the choice of a numbered slot's name */
+static uint8_t numbered_choice(uint32_t number) { return (uint8_t)(number % 38 | number / 38 << 6); }
+
+static void put_many(uint8_t step, uint32_t first, uint32_t names)
+{
+    put(step);
+    put((uint8_t)first);
+    put((uint8_t)names);
+    for (uint32_t i = first; i < first + names && i < NUMBERED; i++)
+        note(numbered_choice(i), step == COME_MANY);
+}
+
+/* A name that comes or stands already; but for one in very many its fields are right */
+static void put_stand(void)
+{
+    int again = stand_count > 0 && (one_in(2) || (stand_count >= VICHRELKA_TABLE_NAMES && !one_in(12)));
+    uint8_t choice = again ? standing[chance(stand_count)] : one_in(400) ? (uint8_t)chance(256) : name_choice();
+    uint8_t flags = (uint8_t)(one_in(400) ? chance(256) : 1 + chance(7));
+    put(STAND);
+    put(choice);
+    put(flags);
+    put_random((flags & HAS_A ? 1 : 0) + (flags & HAS_AAAA ? 1 : 0));
+    if (flags & HAS_DHCID)
+        put((uint8_t)(chance(64) << 2 | (one_in(200) ? 3 : chance(3))));
+    note(choice, 1);
+}
+
+static void put_go(void)
+{
+    uint8_t choice = stand_count == 0 || one_in(80) ? name_choice() : standing[one_in(3) ? stand_count - 1 : chance(stand_count)];
+    put(GO);
+    put(choice);
+    note(choice, 0);
+}
+
+/* One byte of a block, mostly one that says something, and mostly with the check that is then right */
+static void put_change(void)
+{
+    static const uint16_t FIELDS[] = {0, 1, 2, 3, 4, 5, 6, 7, 8, 9, 260, 261, 262, 265, 266, 281, 282, 283, 284, 316, 317, 400, 478, 479, 480, 511};
+    enum { COUNT = sizeof FIELDS / sizeof FIELDS[0] };
+    uint8_t choice = (uint8_t)((one_in(4) ? 0 : 1) | (one_in(2) ? 2 : 0));
+    put(CHANGE);
+    put(choice);
+    put((uint8_t)(one_in(3) ? 0 : chance(256)));
+    put_two(one_in(3) ? chance(VICHRELKA_BLOCK_LEN) : FIELDS[chance(COUNT)]);
+    put((uint8_t)(choice & 2 ? 1u << chance(8) : chance(one_in(2) ? 8 : 256)));
+}
+
+static void put_block_call(void)
+{
+    uint8_t choice = (uint8_t)((one_in(8) ? 1 : 0) | (one_in(16) ? 2 : 0) | (one_in(8) ? 4 : 0));
+    put(BLOCK_STEP);
+    put(choice);
+    put_asked_name((uint8_t)chance(one_in(2) ? 8 : 64));
+    put_random(4);
+    if (choice & 1) {
+        put_two(VICHRELKA_SLOT_LEN * chance(one_in(2) ? 4 : 64) + (one_in(2) ? 0 : chance(VICHRELKA_SLOT_LEN)));
+        put((uint8_t)chance(one_in(2) ? 8 : 256));
+    }
+    if (choice & 2)
+        put_two(one_in(2) ? VICHRELKA_TABLE_LEN - 2 + chance(5) : chance(VICHRELKA_TABLE_LEN));
+    if (choice & 4)
+        put_two(one_in(2) ? VICHRELKA_BLOCK_LEN - 2 + chance(5) : chance(1024));
+}
+
+static void put_calls(void)
+{
+    int is_short = one_in(8);
+    put(REPLAY_STEP);
+    put((uint8_t)is_short);
+    if (is_short)
+        put_two(one_in(2) ? VICHRELKA_TABLE_LEN - 2 + chance(5) : chance(VICHRELKA_TABLE_LEN));
+    put(TIDY_STEP);
+    put((uint8_t)chance(2));
+    put((uint8_t)(one_in(2) ? 0 : chance(4)));
+    put(SOUND_STEP);
+    put_block_call();
+}
+
+static void make_book(void)
+{
+    stand_count = 0;
+    if (one_in(3)) {
+        uint32_t names = one_in(2) ? 62 + chance(4) : chance(one_in(2) ? NUMBERED + 1 : 40), first = chance(names + 1);
+        put_many(COME_MANY, 0, names);
+        if (one_in(4))
+            put_many(GO_MANY, first, chance(names - first + (one_in(8) ? 2 : 1)));
+    }
+    for (uint32_t steps = chance(one_in(4) ? 60 : 16); steps > 0; steps--)
+        if (one_in(3) && (stand_count > 0 || one_in(80)))
+            put_go();
+        else
+            put_stand();
+    if (one_in(3))
+        put_change();
+    if (one_in(12))
+        put_change();
+    if (one_in(16)) {
+        put(CUT);
+        put_two(one_in(2) ? 1 + chance(2) : chance(2000));
+    }
+    put_calls();
+    if (one_in(4)) { /* the book goes on */
+        put_stand();
+        put_calls();
+    }
+    damage(one_in(16) ? 0 : len);
+}
+
 /* Targets */
 
 static const struct {
@@ -563,7 +691,7 @@ static const struct {
     target_fn *try;
     void (*make)(void);
 } targets[] = {{"message", try_message, make_message}, {"listing", try_listing, make_listing}, {"table", try_table, make_table},
-             {"name_text", try_name_text, make_name_text}};
+             {"name_text", try_name_text, make_name_text}, {"book", try_book, make_book}};
 enum { TARGETS = sizeof targets / sizeof targets[0] };
 
 static void on_find(int number)
@@ -618,7 +746,7 @@ int main(int argc, char **argv)
     while (argc == 5 && target < TARGETS && strcmp(argv[1], targets[target].name) != 0)
         target++;
     if (argc != 5 || target == TARGETS) {
-        fprintf(stderr, "random: TARGET SEED CALLS FIND, where TARGET is message, listing, table or name_text\n");
+        fprintf(stderr, "random: TARGET SEED CALLS FIND, where TARGET is message, listing, table, name_text or book\n");
         return 2;
     }
     uint64_t seed = strtoull(argv[2], NULL, 10), most = strtoull(argv[3], NULL, 10), inputs = 0;

@@ -1,5 +1,6 @@
 """Inputs for the fuzzer to begin with, from the edges of tests/ and the examples: seeds.py TARGET FOLDER."""
 
+import hashlib
 import pathlib
 import re
 import sys
@@ -10,6 +11,7 @@ ROOT = HERE.parents[1]
 sys.dont_write_bytecode = True
 sys.path.append(str(HERE.parent))
 
+import book_edges  # noqa: E402
 import compare  # noqa: E402
 import load_edges  # noqa: E402
 import message_edges  # noqa: E402
@@ -17,6 +19,7 @@ import name_text_edges  # noqa: E402
 import table_edges  # noqa: E402
 
 PUT, SLOT, FILL, LENGTH, ADD, REMOVE, CLEAR, WRITE, LOAD, FIND, COUNT = range(11)  # as in table.c
+COME_MANY, GO_MANY, BYTES, REPLAY, TIDY, SOUND, BLOCK = 2, 3, 6, 7, 8, 9, 10  # as in book.c
 STEP = {"add": ADD, "remove": REMOVE, "clear": CLEAR}
 TABLE_AREA = bytes([15])  # as in listing.c
 MOST_TABLE = 20480  # as in table.c
@@ -72,8 +75,31 @@ def names() -> Iterator[bytes]:
             yield bytes([min(edge.call.out_len, 255)]) + edge.call.given
 
 
+def put_book(book: bytes) -> bytes:
+    """The steps that append these bytes, a block at a time"""
+    return b"".join(bytes([BYTES]) + book[at:at + 512] for at in range(0, len(book), 512))
+
+
+def books() -> Iterator[bytes]:
+    ask = bytes([REPLAY, 0, TIDY, 0, 0, TIDY, 1, 0, TIDY, 1, 1, SOUND])
+    for names, gone in ((64, 0), (65, 0), (65, 1), (65, 65), (66, 65)):
+        yield bytes([COME_MANY, 0, names, GO_MANY, 0, gone]) + ask
+    for edge in book_edges.read_edges():
+        call = edge.call
+        if any(edge.zeros):
+            continue
+        if call.word == "replay":
+            yield put_book(call.book) + ask
+        elif call.word == "block" and len(call.name) <= 255:
+            number = call.number.to_bytes(4, "big")
+            slots = [call.table[at:at + 312] for at in range(0, len(call.table), 312) if any(call.table[at:at + 312])]
+            blocks = [at.to_bytes(4, "big") + b"\1" + slot + bytes(163) for at, slot in enumerate(slots)]
+            book = b"".join(block + hashlib.sha256(block).digest() for block in blocks)
+            yield put_book(book) + bytes([BLOCK, 4, 2, len(call.name)]) + call.name + number + (call.out % 1024).to_bytes(2, "big")
+
+
 if __name__ == "__main__":
     target, folder = sys.argv[1], pathlib.Path(sys.argv[2])
-    for number, seed in enumerate({"message": messages, "listing": listings, "table": tables, "name_text": names}[target]()):
+    for number, seed in enumerate({"message": messages, "listing": listings, "table": tables, "name_text": names, "book": books}[target]()):
         if len(seed) <= MOST:
             (folder / ("seed-%04d" % number)).write_bytes(seed)

@@ -23,33 +23,7 @@ static struct slot *slot_at(size_t number)
     return (struct slot *)table + number % VICHRELKA_TABLE_NAMES;
 }
 
-/* Names and slots */
-
-/* A proper name of few letters, so that some are the same: one short label, or full ones up to 255 bytes before it */
-static size_t small_name(uint8_t choice, uint8_t *name)
-{
-    size_t len = 0;
-    for (int i = choice >> 6; i > 0; i--) {
-        name[len++] = LABEL_LIMIT;
-        memset(name + len, 'l', LABEL_LIMIT);
-        len += LABEL_LIMIT;
-    }
-    size_t label = choice >> 6 == 3 ? 61 : 1;
-    name[len++] = (uint8_t)label;
-    memset(name + len, 'a', label);
-    name[len + label - 1] = "abcdefghijklmnopqrstuvwxyz0123456789-_ABCDEFGHIJKLMNOPQRSTUVWXYZ"[choice & 63];
-    len += label;
-    name[len++] = 0;
-    return len;
-}
-
-static void small_dhcid(uint8_t choice, uint8_t *dhcid)
-{
-    memset(dhcid, choice >> 2, VICHRELKA_DHCID_LEN);
-    dhcid[0] = 0;
-    dhcid[1] = choice & 3; /* 3 is none */
-    dhcid[2] = 1;
-}
+/* Slots */
 
 static void put_slot(struct input *in)
 {
@@ -57,48 +31,18 @@ static void put_slot(struct input *in)
     while (number < VICHRELKA_TABLE_NAMES - 1 && slot_at((size_t)number)->len != 0)
         number++;
     struct slot *s = slot_at((size_t)number);
-    memset(s, 0, sizeof *s);
-    s->len = (uint8_t)small_name(take(in), s->name);
-    s->flags = take(in);
-    if (s->flags & HAS_A)
-        memset(s->a, take(in), sizeof s->a);
-    if (s->flags & HAS_AAAA)
-        memset(s->aaaa, take(in), sizeof s->aaaa);
-    if (s->flags & HAS_DHCID)
-        small_dhcid(take(in), s->dhcid);
+    take_slot(in, s);
 }
 
 /* So many names with a client each; the last ones end alike */
 static void fill_table(uint8_t names)
 {
     memset(table, 0, sizeof table);
-    for (size_t i = 0; i < (size_t)names % (VICHRELKA_TABLE_NAMES + 1); i++) {
-        struct slot *s = slot_at(i);
-        s->len = (uint8_t)small_name((uint8_t)(i % 38 | (i >= 38 ? 64 : 0)), s->name);
-        s->flags = HAS_A | HAS_DHCID;
-        s->a[3] = (uint8_t)i;
-        small_dhcid((uint8_t)(i << 2), s->dhcid);
-    }
+    for (size_t i = 0; i < (size_t)names % (VICHRELKA_TABLE_NAMES + 1); i++)
+        *slot_at(i) = numbered_slot(i);
 }
 
 /* Arguments */
-
-/* what is in a slot, what the input says, or a small one */
-static struct bytes take_name(struct input *in, uint8_t *room)
-{
-    uint8_t choice = take(in), which = take(in);
-    if (choice & 1) {
-        const struct slot *s = slot_at(which);
-        memcpy(room, s->name, s->len);
-        for (size_t i = 0; i < s->len; i++)
-            if (choice & 2 && room[i] >= 'a' && room[i] <= 'z')
-                room[i] = (uint8_t)(room[i] - 'a' + 'A');
-        return (struct bytes){room, s->len, 0};
-    }
-    if (choice & 2)
-        return take_slice(in, choice & 4 ? 256 : which);
-    return (struct bytes){room, small_name(which, room), 0};
-}
 
 static void take_client(struct input *in, struct step_arguments *a)
 {
@@ -267,7 +211,7 @@ void try_table(const uint8_t *input, size_t len)
             call_load(&in);
             break;
         case FIND_STEP:
-            a.name = take_name(&in, a.name_bytes);
+            a.name = take_name(&in, table, a.name_bytes);
             call_find(&a.name);
             break;
         case COUNT_STEP:
@@ -276,7 +220,7 @@ void try_table(const uint8_t *input, size_t len)
         default: {
             uint8_t policy = take(&in);
             a.policy = policy & 2 ? policy : policy & 1;
-            a.name = take_name(&in, a.name_bytes);
+            a.name = take_name(&in, table, a.name_bytes);
             if (step != CLEAR_STEP)
                 take_client(&in, &a);
             call_step(step, &a);

@@ -1,0 +1,4 @@
+/* As for replay */
+#include "sound.h"
+
+#include "gone_again.c"

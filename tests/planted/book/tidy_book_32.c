@@ -1,0 +1,4 @@
+/* As for replay */
+#include "tidy.h"
+
+#include "book_32.c"

@@ -1,0 +1,4 @@
+/* As for replay */
+#include "tidy.h"
+
+#include "gone_with_flags.c"

@@ -1,0 +1,4 @@
+/* As for replay */
+#include "tidy.h"
+
+#include "number_any.c"
