@@ -1,7 +1,7 @@
 #!/usr/bin/env bash
 # The example gateway of examples/host, from C99 and again with AddressSanitizer and UBSan: the stored examples, the accident in three ways among them, then
-# damaged messages, every refusal that a command can lead to, a full table, files that are not there and lines that are no commands. What it says is compared
-# byte for byte, and its exit status. The DHCIDs of the examples are compared with those that Python makes from RFC 4701's definition. The words of a refusal are the
+# damaged messages, every refusal that a command can lead to, a full table, files that are not there and lines that are no commands. Then books of names: what a
+# power cut can leave of the last block, damaged ones, too large ones, and disks that are full. What it says is compared byte for byte, and its exit status. The DHCIDs of the examples are compared with those that Python makes from RFC 4701's definition. The words of a refusal are the
 # header's: what is expected here has its number, and `...`.
 # Last line: `N passed, M failed`, counting comparisons.
 set -uo pipefail
@@ -33,6 +33,7 @@ cat >"$out/words.c" <<'END'
 int main(void)
 {
     unsigned number;
+    printf("/: refused /!b\n");
     for (number = 1; number < 64; number++) {
         const char *words = vichrelka_refusal_text(number);
         printf("s|\\(: refused %u\\( at [0-9]*, line [0-9]*\\)\\{0,1\\}: \\).*|\\1", number);
@@ -48,18 +49,21 @@ cc -std=c99 $warn -Iinclude -o "$out/words" "$out/words.c" || stop "the header's
 "$out/words" >"$out/words.sed"
 
 # told WHAT STATUS EXPECTED [ARGUMENT]: each host, in the folder of the inputs, says what the file EXPECTED has, with the header's words, and exits with STATUS; commands
-# are on standard input
+# are on standard input. No books are there but those of the folder $books, as books/; $left is a folder with what has to be left of them
 told() {
   local what_for=$1 status=$2 expected=$out/worded host got
   sed -f "$out/words.sed" "$3" >"$expected"
   shift 3
   cat >"$out/commands"
   for host in "${hosts[@]}"; do
+    rm -rf "$run"/*.book "$run/books"
+    [ -z "${books:-}" ] || cp -r "$books" "$run/books"
     (cd "$run" && exec "$host" "$@") <"$out/commands" >"$out/told" 2>"$out/errors"
     got=$?
     is "$what_for, ${host##*/}: status" "$status" "$got"
     same "$what_for, ${host##*/}" "$expected" "$out/told"
     same "$what_for, ${host##*/}: error stream" "${errors:-/dev/null}" "$out/errors"
+    [ -z "${left:-}" ] || is "$what_for, ${host##*/}: the books that are left" "" "$(diff -rq "$left" "$run/books" 2>&1 | head -n 5)"
   done
 }
 
@@ -86,9 +90,9 @@ same "carried-line-lost.listing" "$out/text" "$folder/carried-line-lost.listing"
 sed 4,6d "$folder/carried-whole.listing" >"$out/text"
 same "carried-entry-lost.listing" "$out/text" "$folder/carried-entry-lost.listing"
 # the DHCIDs that the host shows are all those, and no others, that Python makes
-python3 "$folder/dhcids.py" | sed 's/ / DHCID /' | sort >"$out/made"
+python3 "$folder/dhcids.py" | sed 's/ / DHCID /' | sort >"$out/dhcids"
 grep -h '^[^; ]* DHCID ' "$folder"/*.expected | sort -u >"$out/shown"
-same "the DHCIDs" "$out/made" "$out/shown"
+same "the DHCIDs" "$out/dhcids" "$out/shown"
 
 # ---- damaged messages, and the other refusals of a request: what makes them, and the answer
 
@@ -152,6 +156,7 @@ release 4 9-no-name.hex 192.0.2.31
 show
 END
 lost="no message: look whether the file is there, and has hexadecimal digits in pairs and nothing else"
+wrong="no such command, or not with so many words; README.md has them all"
 none="no address: write four numbers with dots, or eight groups of hexadecimal digits with colons"
 cat >"$out/expected" <<END
 request 4 1-short.hex 192.0.2.31: refused 1: ...
@@ -281,9 +286,318 @@ hand. A 192.0.2.1
 END
 told "names that are returned" 1 "$out/expected" < <(sed -n 's/: .*//p' "$out/expected")
 
+# ---- books of names
+
+# books that Python makes: those of restart.in, and what later steps have to leave
+base="DHCID $(python3 "$folder/dhcids.py" | sed -n 's/^base-1[^ ]* //p')"
+gateway="gateway.bay3.example.net. A 192.0.2.1"
+acid_31="acid-1.bay3.example.net. A 192.0.2.31 $acid"
+acid_41="acid-1.bay3.example.net. A 192.0.2.41 $acid"
+base_32="base-1.bay3.example.net. A 192.0.2.32 $base"
+base_33="base-1.bay3.example.net. A 192.0.2.33 $base"
+feed_21="feed-1.bay3.example.net. AAAA 2001:db8:0:3::21 $feed"
+held="held. AAAA 2001:db8::1 $dhcid"
+hand="hand. A 192.0.2.1"
+five=$(heads 5)
+rm -rf "$out/made"
+mkdir "$out/made"
+python3 tests/host_books.py made "$out/made" <<END || stop "Python makes no books"
+book names
+$gateway
+$acid_31
+$base_32
+$feed_21
+$acid_41
+gone base-1.bay3.example.net.
+$base_33
+book tidied
+$gateway
+$acid_41
+$feed_21
+$base_33
+gone gateway.bay3.example.net.
+book old
+$gateway
+$acid_31
+$base_32
+$feed_21
+$acid_31
+$base_32
+book new
+$gateway
+$acid_31
+$base_32
+$feed_21
+book whole-and-1
+$five
+$acid_31
+book whole-and-2
+$five
+$acid_31
+gone head-1.bay3.example.net.
+book 256
+head-1.bay3.example.net. A 192.0.2.6
+$acid_31
+book 192
+gone-1. $dhcid
+gone-2. $dhcid
+$held
+$hand
+gone-3. $dhcid
+gone gone-3.
+gone gone-2.
+gone gone-1.
+book 193
+$held
+$hand
+$acid_31
+gone acid-1.bay3.example.net.
+gone held.
+gone hand.
+book nothing
+book small
+$acid_41
+$base_32
+book away
+$acid_31
+$base_32
+$acid_41
+END
+
+told "restart.in, with its books" 1 "$folder/restart.expected" <"$folder/restart.in"
+for book in names tidied old new; do
+  same "$book.book of restart.in" "$out/made/$book.book" "$run/$book.book"
+done
+
+# what a power cut can leave of the last block, which changes an address or says that a name is gone: the table is the one before the step or the one after
+# it. Where an older block is whole in its place, by 0 to 3 bytes of the new one, the restart stops.
+cut_off="CUT OFF: %d bytes, of a write that was cut or of a block that was damaged later: a client may have been told of that step"
+halted="NOT REPLAYED, nothing cut off: %d bytes are behind the %d sound blocks, and no write that was cut leaves them; a person has to decide: fetch the book again, \
+or go on from the first %d bytes of it in another file"
+for last in "request 4 acid-1.hex 192.0.2.41" "release 4 acid-1.hex 192.0.2.31"; do
+  step=${last%% *}
+  rm -rf "$run"/*.book "$out/cuts"
+  printf '%s\n' "new $step.book" "load by-hand.listing" "request 4 acid-1.hex 192.0.2.31" "request 4 base-1.hex 192.0.2.32" \
+    "request 6 feed-1.hex 2001:db8:0:3:0:0:0:21" "write before.listing" "$last" "write after.listing" >"$out/text"
+  (cd "$run" && exec "$top/host") <"$out/text" >"$out/told"
+  is "a book to cut, $step: status" 0 $?
+  has "a book to cut, $step" "; stored as block 4" "$out/told"
+  python3 tests/host_books.py cuts "$run/$step.book" 1 "$run/before.listing" "$run/after.listing" "$out/cuts" "$cut_off" "$halted" || stop "Python cuts no book"
+  for way in nothing 0xff older; do
+    books=$out/cuts/$way/books left=$out/cuts/$way/left told "a $step, cut at every byte, then $way" 1 "$out/cuts/$way/expected" <"$out/cuts/$way/in"
+  done
+done
+
+# damaged books: nothing is cut off but a part of a block, or one block with a wrong check that is the last
+rm -rf "$out/bad" "$out/left"
+mkdir "$out/bad" "$out/left"
+python3 tests/host_books.py bad "$out/bad" "$out/left" || stop "Python makes no damaged books"
+unread="cannot be read and written: look whether the file is there; \`new FILE\` begins a book"
+other="NOT REPLAYED, nothing cut off: no block is sound, and the file does not begin as a book; look whether it is one"
+large="TOO LARGE: there is memory for 256 blocks; build this program with a larger BOOK_LIMIT, and tidy the book"
+tidy="TIDY IT by \`tidy FILE\`: there is room for"
+
+# cut_by BYTES, halted_by BYTES BLOCKS SOUND: what the host says, with these numbers
+cut_by() {
+  echo "${cut_off/\%d/$1}"
+}
+halted_by() {
+  local said=${halted/\%d/$1}
+  said=${said/\%d/$2}
+  echo "${said/\%d/$3}"
+}
+
+cat >"$out/expected" <<END
+book books/zeros.book: blocks: 0, names: 0; $(cut_by 512)
+book books/zeros-3.book: blocks: 0, names: 0; $(cut_by 3)
+book books/nothing.book: blocks: 0, names: 0
+book books/full.book: blocks: 64, names: 64
+book books/42-last.book: blocks: 4, names: 4; $(cut_by 512)
+book books/42-check.book: blocks: 4, names: 4; $(cut_by 512)
+book books/42-number.book: blocks: 4, names: 4; $(cut_by 512)
+book books/511.book: blocks: 4, names: 4; $(cut_by 511)
+book books/192.book: blocks: 192, names: 1
+book books/193.book: blocks: 193, names: 1; $tidy 63 more blocks
+book books/256.book: blocks: 256, names: 1; $tidy 0 more blocks
+book books/whole.book: blocks: 5, names: 5
+book books/42-and-a-byte.book: $(halted_by 513 4 2048): refused 42: ...
+book books/42-middle.book: $(halted_by 1536 2 1024): refused 42: ...
+book books/42-first.book: $(halted_by 2560 0 0): refused 42: ...
+book books/43-middle.book: $(halted_by 1024 2 1024): refused 43: ...
+book books/43-last.book: $(halted_by 512 4 2048): refused 43: ...
+book books/43-kind.book: $(halted_by 512 4 2048): refused 43: ...
+book books/43-gone.book: $(halted_by 512 4 2048): refused 43: ...
+book books/43-upper.book: $(halted_by 512 4 2048): refused 43: ...
+book books/43-and-a-byte.book: $(halted_by 513 4 2048): refused 43: ...
+book books/40-names.book: $(halted_by 512 64 32768): refused 40: ...
+book books/40-and-a-byte.book: $(halted_by 513 64 32768): refused 40: ...
+book books/text.book: $other
+book books/0-0-1.book: $other
+book books/no-book.book: $other
+book books/257.book: $large
+book books/256-and-a-byte.book: $large
+book nowhere.book: $unread
+book folder.hex: $unread
+book nowhere/a.book: $unread
+new books/whole.book: NOT DONE: this file is there; go on from its book by \`book FILE\`, or give another name
+new folder.hex: NOT DONE: this file is there; go on from its book by \`book FILE\`, or give another name
+new nowhere/a.book: not written: look whether the folder is there, may be written and has room
+tidy nowhere/a.book: not written: look whether the folder is there, may be written and has room
+tidy folder.hex: not written: look whether the folder is there, may be written and has room
+count: names: 5, and there is room for 59 more
+END
+books=$out/bad left=$out/left told "damaged books" 2 "$out/expected" < <(sed -n 's/: .*//p' "$out/expected")
+is "what a book leaves beside its file" "" "$(find "$run" -name '*.new')"
+cat >"$out/expected" <<END
+tidy a.book: no book is kept: say \`book FILE\` to go on from one, or \`new FILE\` to begin one
+book books/43-last.book: $(halted_by 512 4 2048): refused 43: ...
+request 4 acid-1.hex 192.0.2.31: acid-1.bay3.example.net.: answer 0: the name was free and is now this client's
+tidy books/43-last.book: no book is kept: say \`book FILE\` to go on from one, or \`new FILE\` to begin one
+book: $wrong
+tidy: $wrong
+new a b: $wrong
+END
+cp "$out/bad/"* "$out/left"
+books=$out/bad left=$out/left told "no book is kept" 2 "$out/expected" < <(sed -n 's/: .*//p' "$out/expected")
+
+# a refused step leaves the book as it is, and so does a restart from another book that is refused; the steps after them are in it
+cat >"$out/expected" <<END
+book books/whole.book: blocks: 5, names: 5
+request 4 acid-1.hex 192.0.2.31: acid-1.bay3.example.net.: answer 0: the name was free and is now this client's; stored as block 5
+request 4 base-1-as-acid-1.hex 192.0.2.31: acid-1.bay3.example.net.: refused 30: ...
+request 4 acid-1.hex 2001:db8:0:3:0:0:0:1f: acid-1.bay3.example.net.: refused 16: ...
+request 4 7-discover.hex 192.0.2.31: refused 7: ...
+request 4 nowhere.hex 192.0.2.31: $lost
+release 4 base-1.hex 192.0.2.32: base-1.bay3.example.net.: refused 33: ...
+release 4 acid-1.hex 192.0.2.32: acid-1.bay3.example.net.: refused 34: ...
+clear head-9.bay3.example.net.: refused 33: ...
+clear a..b.: refused 9: ...
+load twice.listing: refused 35: ...
+load nowhere.listing: cannot be read: look whether the file is there
+clear-without-address: names: 0
+book books/43-middle.book: $(halted_by 1024 2 1024): refused 43: ...
+book nowhere.book: $unread
+tidy nowhere/a.book: not written: look whether the folder is there, may be written and has room
+END
+cat >"$out/expected-too" <<END
+clear HEAD-1.bay3.example.net.: answer 0: the name is free; stored as block 6
+book books/whole.book: blocks: 7, names: 5
+END
+cp "$out/made/whole-and-1.book" "$out/left/whole.book"
+books=$out/bad left=$out/left told "refused steps and a book" 2 "$out/expected" < <(sed -n 's/: .*//p' "$out/expected")
+cp "$out/made/whole-and-2.book" "$out/left/whole.book"
+cat "$out/expected-too" >>"$out/expected"
+books=$out/bad left=$out/left told "refused steps and a book, then accepted ones" 2 "$out/expected" < <(sed -n 's/: .*//p' "$out/expected")
+
+# a book without room, which is tidied in its place; a fresh one after a load and after new; several steps by one command
+cat >"$out/expected" <<END
+book books/256.book: blocks: 256, names: 1; $tidy 0 more blocks
+request 4 acid-1.hex 192.0.2.31: acid-1.bay3.example.net.: NOT DONE: the book has no room for the blocks of this; say \`tidy FILE\`, and then this again
+clear head-1.bay3.example.net.: NOT DONE: the book has no room for the blocks of this; say \`tidy FILE\`, and then this again
+clear-without-address: NOT DONE: the book has no room for the blocks of this; say \`tidy FILE\`, and then this again
+count: names: 1, and there is room for 63 more
+tidy books/256.book: blocks: 1, they were 256
+request 4 acid-1.hex 192.0.2.31: acid-1.bay3.example.net.: answer 0: the name was free and is now this client's; stored as block 1
+book books/192.book: blocks: 192, names: 1
+request 4 acid-1.hex 192.0.2.31: acid-1.bay3.example.net.: answer 0: the name was free and is now this client's; stored as block 192; $tidy 63 more blocks
+new: done; the book is begun anew, blocks: 0
+book books/192.book: blocks: 0, names: 0
+load alone.listing: records: 6, and the file does not say how many were written; the book is begun anew, blocks: 5
+clear-without-address: gone-3. gone-2. gone-1. names: 3; stored as blocks 5 to 7
+book books/192.book: blocks: 8, names: 2
+tidy books/193.book: blocks: 2, they were 8
+request 4 acid-1.hex 192.0.2.31: acid-1.bay3.example.net.: answer 0: the name was free and is now this client's; stored as block 2
+clear acid-1.bay3.example.net.: answer 0: the name is free; stored as block 3
+clear held.: answer 0: the name is free; stored as block 4
+clear hand.: answer 0: the name is free; stored as block 5
+tidy books/nothing.book: blocks: 0, they were 6
+book books/nothing.book: blocks: 0, names: 0
+book books/256.book: blocks: 2, names: 2
+load-anyway over.listing: refused 32: ...
+load over.listing: NOT LOADED: records: 65, but 64 were written; fetch the file again, or say \`load-anyway FILE\`
+book books/full.book: blocks: 64, names: 64
+load full.listing: records: 64, as many as were written; the book is begun anew, blocks: 64
+END
+cp "$out/bad/"* "$out/left"
+cp "$out/made"/{256,192,193,nothing}.book "$out/left"
+books=$out/bad left=$out/left told "a book without room, and fresh ones" 2 "$out/expected" < <(sed -n 's/: .*//p' "$out/expected")
+
+# a full disk: no file may have more than 1,024 bytes, which are two blocks. The step that is not stored is said, and tidying stores it.
+unstored="NOT STORED: tell no client yet, and look whether the book's file is there, may be written and has room; the next step that is stored, or \`tidy FILE\`, \
+stores this one too"
+cat >"$out/expected" <<END
+new small.book: done; the book is begun anew, blocks: 0
+request 4 acid-1.hex 192.0.2.31: acid-1.bay3.example.net.: answer 0: the name was free and is now this client's; stored as block 0
+request 4 base-1.hex 192.0.2.32: base-1.bay3.example.net.: answer 0: the name was free and is now this client's; stored as block 1
+request 4 acid-1.hex 192.0.2.41: acid-1.bay3.example.net.: answer 1: the client holds the name, and has this address now; $unstored
+request 6 feed-1.hex 2001:db8:0:3:0:0:0:21: feed-1.bay3.example.net.: answer 0: the name was free and is now this client's; $unstored
+tidy full.book: not written: look whether the folder is there, may be written and has room
+tidy small.book: not written: look whether the folder is there, may be written and has room
+load full.listing: NOT LOADED: the fresh book is not written; look whether the folder of the book may be written and has room
+release 6 feed-1.hex 2001:db8:0:3:0:0:0:21: feed-1.bay3.example.net.: answer 0: the last address is gone, and the name is free; $unstored
+tidy small.book: blocks: 2, they were 5
+book small.book: blocks: 2, names: 2
+find acid-1.bay3.example.net.: slot 0, held by a client
+acid-1.bay3.example.net. A 192.0.2.41
+acid-1.bay3.example.net. $acid
+END
+sed -n 's/: .*//p' "$out/expected" >"$out/text"
+for host in "${hosts[@]}"; do
+  rm -rf "$run"/*.book "$run/books"
+  [ ! -e /dev/full ] || ln -s /dev/full "$run/full.book.new"
+  (cd "$run" && trap '' XFSZ && ulimit -f 1 && exec "$host") <"$out/text" 2>"$out/errors" | cat >"$out/told"
+  is "a book on a full disk, ${host##*/}: status" 2 "${PIPESTATUS[0]}"
+  same "a book on a full disk, ${host##*/}" "$out/expected" "$out/told"
+  same "a book on a full disk, ${host##*/}: error stream" /dev/null "$out/errors"
+  same "a book on a full disk, ${host##*/}: the book" "$out/made/small.book" "$run/small.book"
+  is "a book on a full disk, ${host##*/}: what is left beside it" "" "$(find "$run" -name '*.new' -o -name full.book)"
+done
+
+# the book's file is away for a while, and then has bytes behind the book, as a write that failed leaves them: the next step that is stored stores the ones before it
+# too, and covers those bytes
+cat >"$out/expected" <<END
+new away.book: done; the book is begun anew, blocks: 0
+request 4 acid-1.hex 192.0.2.31: acid-1.bay3.example.net.: answer 0: the name was free and is now this client's; stored as block 0
+write at-first.listing: records: 2
+request 4 base-1.hex 192.0.2.32: base-1.bay3.example.net.: answer 0: the name was free and is now this client's; $unstored
+write away.listing: records: 4
+request 4 acid-1.hex 192.0.2.41: acid-1.bay3.example.net.: answer 1: the client holds the name, and has this address now; stored as blocks 1 to 2
+END
+
+# wait_for FILE: until the host has written it
+wait_for() {
+  local i
+  for ((i = 0; i < 500; i++)); do
+    [ ! -e "$1" ] || return 0
+    sleep 0.02
+  done
+  fail "$1 is not written"
+}
+
+for host in "${hosts[@]}"; do
+  rm -f "$run"/*.book "$run/at-first.listing" "$run/away.listing" "$out/commands.pipe"
+  mkfifo "$out/commands.pipe"
+  (cd "$run" && exec "$host") <"$out/commands.pipe" >"$out/told" 2>"$out/errors" &
+  job=$!
+  exec 3>"$out/commands.pipe"
+  sed -n '1,3s/: .*//p' "$out/expected" >&3
+  wait_for "$run/at-first.listing"
+  mv "$run/away.book" "$run/elsewhere"
+  sed -n '4,5s/: .*//p' "$out/expected" >&3
+  wait_for "$run/away.listing"
+  mv "$run/elsewhere" "$run/away.book"
+  head -c 100 /dev/urandom >>"$run/away.book"
+  sed -n '6s/: .*//p' "$out/expected" >&3
+  exec 3>&-
+  wait "$job"
+  is "a book that is away for a while, ${host##*/}: status" 2 $?
+  same "a book that is away for a while, ${host##*/}" "$out/expected" "$out/told"
+  same "a book that is away for a while, ${host##*/}: error stream" /dev/null "$out/errors"
+  same "a book that is away for a while, ${host##*/}: the book" "$out/made/away.book" "$run/away.book"
+done
+
 # ---- lines that are no commands
 
-wrong="no such command, or not with so many words; README.md has them all"
 {
   printf '\n; a comment\n \t \nfrobnicate\nrequest 4 acid-1.hex\nload a listing\nshow show show show show show show\nset nothing\n'
   printf 'site acid-1\nclear a..b.\nclear a.(\nfind .\nfind a.b.\ncount\nclear-released\nclear-without-address\nfind\ncount a.\nSHOW\n\tshow\t\nsh\0w\nshow\r\n\303\244\n'

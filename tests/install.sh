@@ -172,6 +172,7 @@ if command -v man >/dev/null 2>&1; then
   for call in "${calls[@]}"; do
     is "vichrelka(3): the part on $call" 1 "$(grep -cx "   $call" "$out/page")"
   done
+  is "vichrelka(3): the points of its lists" "$(grep -c '^ \*   - ' include/vichrelka.h)" "$(grep -c '^\.IP ' "$pages/man3/vichrelka.3")"
   for name in $(grep -o '\bVICHRELKA_[A-Z0-9_]*' include/vichrelka.h | grep -v -e '_H$' -e NODISCARD | sort -u); do
     grep -q "\b$name\b" "$out/page" || fail "vichrelka(3) does not have $name"
   done
