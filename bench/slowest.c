@@ -1,7 +1,8 @@
 /* The slowest input that was found for each call of vichrelka.h: see bench/slowest.sh.
  *
  * The inputs were made from what the code does with each byte: as many options, labels, words or entries as fit, names that are alike up to their ends, and names
- * that the first test of a load does not tell apart. Each is timed, and the slowest of each call is printed. Every answer is checked. */
+ * that the first test of a load does not tell apart. Books have 10,000 blocks: the time grows with that number, and with its square if there are more names
+ * than a table has room for. Each is timed, and the slowest of each call is printed. Every answer is checked. */
 #include <stdbool.h>
 #include <stdio.h>
 #include <string.h>
@@ -69,7 +70,9 @@ static const char *long_labels(int i)
     static char text[VICHRELKA_NAME_TEXT_LIMIT + 1];
     for (int at = 0; at < VICHRELKA_NAME_TEXT_LIMIT; at++)
         text[at] = at % 64 == 63 ? '.' : 'a';
-    text[VICHRELKA_NAME_TEXT_LIMIT - 3] = IN_LABEL[i / LABEL_BYTES];
+    /* the last two letters tell 1,444 names; only further ones have another before them */
+    text[VICHRELKA_NAME_TEXT_LIMIT - 4] = IN_LABEL[i / (LABEL_BYTES * LABEL_BYTES)];
+    text[VICHRELKA_NAME_TEXT_LIMIT - 3] = IN_LABEL[i / LABEL_BYTES % LABEL_BYTES];
     text[VICHRELKA_NAME_TEXT_LIMIT - 2] = IN_LABEL[i % LABEL_BYTES];
     text[VICHRELKA_NAME_TEXT_LIMIT - 1] = '.';
     return text;
@@ -79,6 +82,14 @@ static const char *short_labels(int i)
 {
     static char text[VICHRELKA_NAME_TEXT_LIMIT + 1];
     alike(text, 125, "", i);
+    return text;
+}
+
+/* the same for more names, with a last label of three letters */
+static const char *many_labels(int i)
+{
+    static char text[VICHRELKA_NAME_TEXT_LIMIT + 1];
+    alike(text, 124, (char[]){IN_LABEL[i / (LABEL_BYTES * LABEL_BYTES)], 0}, i % (LABEL_BYTES * LABEL_BYTES));
     return text;
 }
 
@@ -106,6 +117,13 @@ static uint64_t accepted(uint32_t value)
 }
 
 static uint8_t table[VICHRELKA_TABLE_LEN], area[VICHRELKA_TABLE_LEN], out[VICHRELKA_WRITTEN_LIMIT];
+
+enum { BLOCKS = 10000 };
+static struct {
+    size_t len;
+    uint8_t at[BLOCKS * VICHRELKA_BLOCK_LEN];
+} book;
+
 static const uint8_t DHCID[VICHRELKA_DHCID_LEN] = {0, 1, 1, 7}, ADDRESS[16] = {0x20, 1, 0xd, 0xb8};
 
 static uint64_t name_call(const struct input *in)
@@ -185,6 +203,30 @@ static uint64_t write_call(const struct input *in)
 {
     (void)in;
     return vichrelka_table_write(table, sizeof table, out, sizeof out);
+}
+
+static uint64_t block_call(const struct input *in)
+{
+    return vichrelka_book_block(table, sizeof table, in->bytes.at, in->bytes.len, 0, out, sizeof out);
+}
+
+/* the book is put together before */
+static uint64_t replay_call(const struct input *in)
+{
+    (void)in;
+    return vichrelka_book_replay(area, sizeof area, book.at, book.len);
+}
+
+static uint64_t tidy_call(const struct input *in)
+{
+    (void)in;
+    return vichrelka_book_tidy(book.at, book.len, out, sizeof out);
+}
+
+static uint64_t sound_call(const struct input *in)
+{
+    (void)in;
+    return vichrelka_book_sound(book.at, book.len);
 }
 
 /* Messages */
@@ -530,6 +572,112 @@ static void writes(void)
     say("vichrelka_table_write");
 }
 
+/* Books */
+
+static void begin_book(const char *what)
+{
+    memset(&in, 0, sizeof in);
+    in.what = what;
+    book.len = 0;
+}
+
+/* the block of a name, from a table that has it alone or has none; it stands with an AAAA and a DHCID */
+static void put_block(const char *text, bool stands)
+{
+    uint32_t number = (uint32_t)(book.len / VICHRELKA_BLOCK_LEN);
+    in.bytes.len = wire(text, in.bytes.at);
+    memset(table, 0, sizeof table);
+    if (stands && add_call(&in) != 0)
+        stop(in.what, "its name is not added");
+    uint64_t answer = vichrelka_book_block(table, sizeof table, in.bytes.at, in.bytes.len, number, book.at + book.len, sizeof book.at - book.len);
+    if (vichrelka_refusal(answer) != 0)
+        stop(in.what, "its block is not written");
+    book.len += VICHRELKA_BLOCK_LEN;
+}
+
+/* 64 names, of which the last is then said again and again: a search comes to it last */
+static void last_again(const char *what, const char *(*text)(int))
+{
+    begin_book(what);
+    for (int i = 0; i < BLOCKS; i++)
+        put_block(text(i < VICHRELKA_TABLE_NAMES ? i : VICHRELKA_TABLE_NAMES - 1), true);
+}
+
+/* 64 names, of which the last then goes and returns, again and again, and stands at the end */
+static void last_returns(const char *what, const char *(*text)(int))
+{
+    begin_book(what);
+    for (int i = 0; i < BLOCKS; i++)
+        put_block(text(i < VICHRELKA_TABLE_NAMES ? i : VICHRELKA_TABLE_NAMES - 1), i < VICHRELKA_TABLE_NAMES || i % 2 != 0);
+}
+
+/* 64 names, of which the first then goes, behind which all others move up, and returns as the last; and so on with each */
+static void first_returns(const char *what, const char *(*text)(int))
+{
+    begin_book(what);
+    for (int i = 0; i < VICHRELKA_TABLE_NAMES; i++)
+        put_block(text(i), true);
+    for (int i = VICHRELKA_TABLE_NAMES; i < BLOCKS; i++)
+        put_block(text((i - VICHRELKA_TABLE_NAMES) / 2 % VICHRELKA_TABLE_NAMES), i % 2 != 0);
+}
+
+/* 5,000 names that come and then go in the same order: too many for a table (40), and each that goes was said 5,000 blocks before */
+static void come_and_go(const char *what, const char *(*text)(int))
+{
+    begin_book(what);
+    for (int i = 0; i < BLOCKS; i++)
+        put_block(text(i % (BLOCKS / 2)), i < BLOCKS / 2);
+}
+
+static void blocks(void)
+{
+    static const uint32_t WRITTEN = VICHRELKA_BLOCK_LEN;
+    begin_step("64 names of 255 bytes that differ in the last two; the last one", long_labels, 2, VICHRELKA_TABLE_NAMES - 1);
+    try(block_call, &in, accepted(WRITTEN));
+    begin_step("64 names of 255 bytes that differ in the last two; one that is not there", long_labels, 2, VICHRELKA_TABLE_NAMES);
+    try(block_call, &in, accepted(WRITTEN));
+    begin_step("64 names of 254 bytes, 125 labels and one in which they differ; the last one", short_labels, 2, VICHRELKA_TABLE_NAMES - 1);
+    try(block_call, &in, accepted(WRITTEN));
+    begin_step("64 names of 254 bytes, 125 labels and one in which they differ; one that is not there", short_labels, 2, VICHRELKA_TABLE_NAMES);
+    try(block_call, &in, accepted(WRITTEN));
+    say("vichrelka_book_block");
+}
+
+static void full_books(call_fn *call, uint64_t want)
+{
+    last_again("10,000 blocks, 64 names of 255 bytes that differ in the last two; the last one over and over", long_labels);
+    try(call, &in, want);
+    last_again("10,000 blocks, 64 names of 125 labels and one in which they differ; the last one over and over", short_labels);
+    try(call, &in, want);
+    last_returns("10,000 blocks, 64 names of 255 bytes that differ in the last two; the last one goes and returns", long_labels);
+    try(call, &in, want);
+    last_returns("10,000 blocks, 64 names of 125 labels and one in which they differ; the last one goes and returns", short_labels);
+    try(call, &in, want);
+    first_returns("10,000 blocks, 64 names of 125 labels and one in which they differ; the first goes and returns", short_labels);
+    try(call, &in, want);
+}
+
+static void crowded_books(call_fn *call)
+{
+    come_and_go("10,000 blocks, 5,000 names of 255 bytes that differ in the last three; each goes 5,000 blocks later (40)", long_labels);
+    try(call, &in, VICHRELKA_REFUSED_TABLE_NOT_SOUND);
+    come_and_go("10,000 blocks, 5,000 names of 124 labels and one in which they differ; each goes 5,000 blocks later (40)", many_labels);
+    try(call, &in, VICHRELKA_REFUSED_TABLE_NOT_SOUND);
+}
+
+/* The count of sound blocks ends before the first name too many. */
+static void books(void)
+{
+    full_books(replay_call, 0);
+    crowded_books(replay_call);
+    say("vichrelka_book_replay");
+    full_books(tidy_call, accepted(VICHRELKA_TIDIED_LIMIT));
+    crowded_books(tidy_call);
+    say("vichrelka_book_tidy");
+    full_books(sound_call, accepted(BLOCKS));
+    say("vichrelka_book_sound");
+}
+
 int main(int argc, char **argv)
 {
     verbose = argc > 1 && strcmp(argv[1], "-v") == 0;
@@ -545,5 +693,7 @@ int main(int argc, char **argv)
     steps("vichrelka_table_count", count_call, accepted(VICHRELKA_TABLE_NAMES), 2);
     writes();
     loads();
+    blocks();
+    books();
     return 0;
 }
