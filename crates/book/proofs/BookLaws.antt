@@ -1,6 +1,7 @@
 -- A book block by block: its length, its cuts, that its bytes determine its notes, and that it is right or bad. Assumes nothing.
 use Prim.Native.Nat.{ℕ, zero, suc, _+_, _*_, _-_}
 use mathlib.Core.Path.{_≡_, refl, sym, ap, ap₂, subst, _∙_}
+use mathlib.Core.Logic.{_⊎_, inl, inr}
 use mathlib.Core.List.{List, [], _∷_, _++_, append-nil, append-assoc}
 use native.Mathlib.Omega.{arith}
 use lib.ListN.{length, take, drop, length-append, length-drop, take-append-drop}
@@ -52,9 +53,8 @@ right-not-bad {i} {t} (RightFrom.more {c} {cs} x r e s h) (BadFrom.later {n} d y
 
 -- ---- always one
 
-pub data RightOrBad (i : ℕ) (t : List TableEntry) (b : List ℕ) : Type 0 where
-  right : (cs : List Note) → RightFrom i t b cs → RightOrBad i t b
-  bad : (n : ℕ) → BadFrom i t b n → RightOrBad i t b
+abbrev RightOrBad : ℕ → List TableEntry → List ℕ → Type 0
+RightOrBad i t b = ((cs : List Note) × RightFrom i t b cs) ⊎ ((n : ℕ) × BadFrom i t b n)
 
 front-length : (k : ℕ) (b : List ℕ) → length b ≡ 512 * suc k → length (take 512 b) ≡ 512
 front-length k b l = length-take-le 512 b (omega (arith, l))
@@ -63,20 +63,20 @@ rest-length : (k : ℕ) (b : List ℕ) → length b ≡ 512 * suc k → length (
 rest-length k b l = length-drop 512 b ∙ omega (arith, l)
 
 pub right-or-bad-from : (k i : ℕ) (t : List TableEntry) (b : List ℕ) → length b ≡ 512 * k → RightOrBad i t b
-right-or-bad-from zero i t b l = RightOrBad.right [] (RightFrom.over (no-elements b (omega (arith, l))))
+right-or-bad-from zero i t b l = inl ([], RightFrom.over (no-elements b (omega (arith, l))))
 right-or-bad-from (suc k) i t b l = go (λ j u. right-or-bad-from k j u (drop 512 b) (rest-length k b l)) (says i t (take 512 b)) (is-sealed (take 512 b))
   where
     cut : b ≡ take 512 b ++ drop 512 b
     cut = sym (take-append-drop 512 b)
 
     on : (c : Note) → Says i t (take 512 b) c → RightOrBad (suc i) (noted c t) (drop 512 b) → RightOrBad i t b
-    on c s (RightOrBad.right cs h) = RightOrBad.right (c ∷ cs) (RightFrom.more (take 512 b) (drop 512 b) cut s h)
-    on c s (RightOrBad.bad n h) = RightOrBad.bad n (BadFrom.later c (take 512 b) (drop 512 b) cut s h)
+    on c s (inl (cs, h)) = inl (c ∷ cs, RightFrom.more (take 512 b) (drop 512 b) cut s h)
+    on c s (inr (n, h)) = inr (n, BadFrom.later c (take 512 b) (drop 512 b) cut s h)
 
     go : ((j : ℕ) (u : List TableEntry) → RightOrBad j u (drop 512 b)) → Decided ((c : Note) × Says i t (take 512 b) c) → Decided (IsSealed (take 512 b)) → RightOrBad i t b
     go rest (Decided.holds h) d = on (h .0) (h .1) (rest (suc i) (noted (h .0) t))
-    go rest (Decided.fails h) (Decided.fails wrong) = RightOrBad.bad 42 (BadFrom.check (take 512 b) (drop 512 b) cut (front-length k b l) wrong)
-    go rest (Decided.fails h) (Decided.holds fine) = RightOrBad.bad 43 (BadFrom.field (take 512 b) (drop 512 b) cut (front-length k b l) fine (λ c s. h (c, s)))
+    go rest (Decided.fails h) (Decided.fails wrong) = inr (42, BadFrom.check (take 512 b) (drop 512 b) cut (front-length k b l) wrong)
+    go rest (Decided.fails h) (Decided.holds fine) = inr (43, BadFrom.field (take 512 b) (drop 512 b) cut (front-length k b l) fine (λ c s. h (c, s)))
 
 -- and one fault
 pub one-bad : {i : ℕ} {t : List TableEntry} {b : List ℕ} {n m : ℕ} → BadFrom i t b n → BadFrom i t b m → n ≡ m

@@ -22,7 +22,7 @@ use Rattle.book.specs.LastNote.{lastSaid}
 use Rattle.book.specs.Blocks.{Says}
 use Rattle.book.specs.Books.{Right, Bad, Replayable, SoundBlocks, tidied}
 use Rattle.book.specs.Calls.{BlockWritten, Replays, Tidies, BlocksWritten}
-use Rattle.book.proofs.BookLaws.{one-right, right-not-bad, RightOrBad, right-or-bad-from, one-bad}
+use Rattle.book.proofs.BookLaws.{one-right, right-not-bad, right-or-bad-from, one-bad}
 use Rattle.book.proofs.NoteLaws.{found-after}
 use Rattle.book.proofs.SoundLaws.{sound-after}
 use Rattle.book.proofs.TornLaws.{cut-block}
@@ -39,7 +39,7 @@ pub one-book : (b : List ℕ) (cs ds : List Note) → Right b cs → Right b ds 
 one-book b cs ds h k = one-right h k
 
 -- bytes whose length is a multiple of 512 are right or bad, and never both
-pub right-or-bad : (k : ℕ) (b : List ℕ) → length b ≡ blockSize * k → RightOrBad 0 [] b × ((cs : List Note) (n : ℕ) → Right b cs → Bad b n → ⊥)
+pub right-or-bad : (k : ℕ) (b : List ℕ) → length b ≡ blockSize * k → (((cs : List Note) × Right b cs) ⊎ ((n : ℕ) × Bad b n)) × ((cs : List Note) (n : ℕ) → Right b cs → Bad b n → ⊥)
 right-or-bad k b long = (right-or-bad-from k 0 [] b long, λ cs n h bad. right-not-bad h bad)
 
 -- with one number
