@@ -11,6 +11,10 @@ use lib.ListN.{length, take, drop, replicate}
 unfoldable pub overlay : List ℕ → ℕ → List ℕ → List ℕ
 overlay to at from = take at to ++ from ++ drop (at + length from) to
 
+-- the bytes of a row of slots, each of that size, with the slot at an offset taken out and an unused one at the end
+unfoldable pub closedUp : ℕ → List ℕ → ℕ → List ℕ
+closedUp size b at = take at b ++ drop (at + size) b ++ replicate size 0
+
 -- the lowest n bytes of x, the highest of them first
 unfoldable pub bigEndian : ℕ → ℕ → List ℕ
 bigEndian zero x = []

@@ -1,5 +1,5 @@
 -- The refusal numbers of document 01, "Refusal numbers" (docs/RULES.md, 2.2), in its order, and from 42 on those of document 02, one name each: the
--- list of src/refusal.rt, for contracts. docs/REFUSALS.md says when each is given. 10, 18, 19, 23 and 41 are no refusal's.
+-- list of src/refusal.rt, for contracts. docs/REFUSALS.md says when each is given. 10, 18, 19, 23, 41 and 45 are no refusal's.
 use Prim.Native.Nat.{ℕ}
 
 abbrev pub messageLength : ℕ
@@ -94,3 +94,6 @@ wrongField = 43
 
 abbrev pub blockLength : ℕ
 blockLength = 44
+
+abbrev pub reverseFull : ℕ
+reverseFull = 46

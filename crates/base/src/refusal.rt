@@ -1,5 +1,5 @@
 // The refusal numbers of document 01 (docs/RULES.md, 2.2) and, from 42 on, of document 02, one name each. `specs/Refusal.antt` is the same list for
-// contracts; `docs/REFUSALS.md` says what each means. 10, 18, 19, 23 and 41 are not used.
+// contracts; `docs/REFUSALS.md` says what each means. 10, 18, 19, 23, 41 and 45 are not used.
 pub const MESSAGE_LENGTH: u32 = 1;
 
 pub const NOT_BOOTREQUEST: u32 = 2;
@@ -61,3 +61,5 @@ pub const WRONG_CHECK: u32 = 42;
 pub const WRONG_FIELD: u32 = 43;
 
 pub const BLOCK_LENGTH: u32 = 44;
+
+pub const REVERSE_FULL: u32 = 46;

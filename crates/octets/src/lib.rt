@@ -1,8 +1,8 @@
-// Octets compared, and set to zero, many at a turn.
+// Octets compared, set to zero and moved, many at a turn.
 ghost use mathlib.Core.Path.{_≡_};
 ghost use Prim.Native.Nat.{_+_, _≤_};
 ghost use lib.ListN.{length, take, drop, replicate};
-ghost use Rattle.base.specs.Bytes.{overlay, eqBytes};
+ghost use Rattle.base.specs.Bytes.{overlay, closedUp, eqBytes};
 ghost use Rattle.base.specs.Logic.{Decides};
 
 // Is there nothing but zeros? With no way out before the end, so that many bytes are taken at a turn.
@@ -28,6 +28,30 @@ pub fn put_zeros(to: &mut [u8], at: usize, size: usize)
         to[at + i] = 0;
         i += 1;
     }
+}
+
+// Moves the bytes behind the slot at `at`, of this size, up by a slot.
+fn move_up(row: &mut [u8], size: usize, at: usize)
+    requires { ⌜ at + size ≤ length (now row) ⌝ }
+    ensures { λ _. ⌜ now (row .exit) ≡ overlay (now (row .entry)) at (drop (at + size) (now (row .entry))) ⌝ }
+{
+    let behind = at + size;
+    let count = row.len() - behind;
+    let mut i: usize = 0;
+    while i < count {
+        row[at + i] = row[behind + i];
+        i += 1;
+    }
+}
+
+// Takes the slot at `at` out of a row of slots of this size: later ones move up, and the last slot is then unused.
+pub fn close_up(row: &mut [u8], size: usize, at: usize)
+    requires { ⌜ at + size ≤ length (now row) ⌝ }
+    ensures { λ _. ⌜ now (row .exit) ≡ closedUp size (now (row .entry)) at ⌝ }
+{
+    move_up(row, size, at);
+    let last = row.len() - size;
+    put_zeros(row, last, size);
 }
 
 // How many bytes are compared at a turn.

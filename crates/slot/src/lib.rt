@@ -15,15 +15,21 @@ ghost use mathlib.Core.Path.{_≡_};
 ghost use Prim.Native.Nat.{_≤_};
 ghost use lib.ListN.{length, take, drop};
 ghost use Rattle.base.specs.Bytes.{eqBytes};
+ghost use Rattle.base.specs.Family.{KnownFamily};
 ghost use Rattle.base.specs.Logic.{Decides};
 ghost use Rattle.slots.specs.Effect.{deleted, hasAddress};
-ghost use Rattle.slots.specs.Entry.{addressOf, addressSize, other};
+ghost use Rattle.slots.specs.Entry.{addressOf, addressSize, familyOf, other};
 ghost use Rattle.slots.specs.Fields.{inField, there};
 ghost use Rattle.slots.specs.Form.{IsSlot};
 ghost use Rattle.slots.specs.Promise.{OfSlot, holding, isAddress, removal};
 ghost use Rattle.slots.specs.Promise as spec;
 ghost use Rattle.slots.specs.SlotTests as tests;
 ghost use Rattle.slots.specs.Sizes.{fieldSize, fieldAt, fieldBit, addressType, bodySize};
+
+// The number of a family, as a call gives it.
+const V4: u32 = 4;
+
+const V6: u32 = 6;
 
 // How many bytes the three fields have.
 const A_SIZE: usize = 4;
@@ -201,6 +207,26 @@ pub fn data_from(slot: &[u8], rtype: Rtype) -> &[u8]
 {
     let from = field_offset(rtype);
     &slot[from..from + DHCID_SIZE]
+}
+
+// Is this number, as a call gives it, a family's?
+pub fn is_family(family: u32) -> bool
+    ensures { λ r. ⌜ Decides r (KnownFamily family) ⌝ }
+{
+    if family == V4 {
+        return true;
+    }
+    family == V6
+}
+
+// The family of a number: 4, or else 6.
+pub fn family_of(family: u32) -> Family
+    ensures { λ r. ⌜ r ≡ familyOf family ⌝ }
+{
+    if family == V4 {
+        return Family::V4;
+    }
+    Family::V6
 }
 
 // The other family.

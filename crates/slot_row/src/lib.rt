@@ -6,15 +6,14 @@ use octets::same;
 use slot::is_slot;
 ghost use mathlib.Core.Path.{_≡_};
 ghost use mathlib.Core.List.{List, [], _∷_};
-ghost use Prim.Native.Nat.{_+_, _≤_, _<_};
+ghost use Prim.Native.Nat.{_<_};
 ghost use lib.ListN.{length, drop};
-ghost use Rattle.base.specs.Bytes.{overlay};
 ghost use Rattle.base.specs.Logic.{Decides};
 ghost use Rattle.name.specs.Name.{canonical};
 ghost use Rattle.slots.specs.Entry.{names, position, Distinct};
 ghost use Rattle.slots.specs.Form.{TableEntry, Sound, tableBytes};
-ghost use Rattle.slots.specs.Promise.{Entries, OfTable, nameAt, closedUp};
-ghost use Rattle.slots.specs.Sizes.{mostNames, slotSize, tableSize};
+ghost use Rattle.slots.specs.Promise.{Entries, OfTable, nameAt};
+ghost use Rattle.slots.specs.Sizes.{mostNames, tableSize};
 
 // How many slots there are, and their bytes.
 pub const SLOTS: usize = 64;
@@ -135,30 +134,6 @@ pub fn is_sound(table: &[u8]) -> bool
         return false;
     }
     no_name_twice(table)
-}
-
-// Moves the bytes behind the slot at `at` up by a slot.
-fn move_up(table: &mut [u8], at: usize)
-    requires { ⌜ at + slotSize ≤ length (now table) ⌝ }
-    ensures { λ _. ⌜ now (table .exit) ≡ overlay (now (table .entry)) at (drop (at + slotSize) (now (table .entry))) ⌝ }
-{
-    let behind = at + slot::SIZE;
-    let count = table.len() - behind;
-    let mut i: usize = 0;
-    while i < count {
-        table[at + i] = table[behind + i];
-        i += 1;
-    }
-}
-
-// Takes the slot at `at` out: later ones move up, and the last slot is then unused.
-pub fn close_up(table: &mut [u8], at: usize)
-    requires { ⌜ at + slotSize ≤ length (now table) ⌝ }
-    ensures { λ _. ⌜ now (table .exit) ≡ closedUp (now (table .entry)) at ⌝ }
-{
-    move_up(table, at);
-    let last = table.len() - slot::SIZE;
-    put_zeros(table, last, slot::SIZE);
 }
 
 // Makes the table empty.

@@ -5,10 +5,10 @@ use mathlib.Core.List.{List, [], _∷_, _++_, append-assoc, append-nil}
 use native.Mathlib.Omega.{arith}
 use lib.ListN.{length, take, drop, replicate, length-append, replicate-append-replicate}
 use lib.Seq.{take-at, drop-at, drop-drop}
+use Rattle.base.specs.Bytes.{closedUp}
 use Rattle.base.proofs.Bytes.{take-replicate, drop-replicate}
 use Rattle.base.proofs.Lists.{every-middle, every-left}
 use Rattle.slots.specs.Form.{TableEntry, slotBytes, WellFormed, usedSlots, tableBytes, IsTable}
-use Rattle.slots.specs.Promise.{closedUp}
 use Rattle.slots.specs.Sizes.{slotSize}
 use Rattle.slots.proofs.LaidLaws.{length-slot}
 use Rattle.slots.proofs.TableLaws.{table-none, table-more, length-used}
@@ -79,7 +79,7 @@ module _ (k : ℕ) (p : List TableEntry) (e : TableEntry) (r : List TableEntry) 
   replaced f = inserted k p (e ∷ r) b h f r entry-within behind-it
 
   -- none in its place: later ones move up
-  pub taken-out : closedUp b (slotSize * length p) ≡ tableBytes k (p ++ r)
+  pub taken-out : closedUp slotSize b (slotSize * length p) ≡ tableBytes k (p ++ r)
   unfolding closedUp tableBytes
   taken-out =
       let j = k - length p - 1 in

@@ -6,15 +6,14 @@ use mathlib.Core.List.{List, [], _∷_, _++_, append-assoc}
 use native.Mathlib.Nat.{add-zero, suc-ne-zero}
 use native.Mathlib.Omega.{arith}
 use lib.ListN.{length, take, drop, getD, replicate, length-append, length-drop, length-replicate, getD-replicate, take-append-drop, drop-of-length-le}
-use lib.Seq.{take-at, drop-at, drop-drop, take-take, getD-take, getD-drop, drop-paste}
+use lib.Seq.{take-at, drop-at, drop-drop, take-take, getD-take, getD-drop}
 use Rattle.base.specs.Bytes.{overlay}
 use Rattle.base.specs.Logic.{Every, Decides}
-use Rattle.base.proofs.Bytes.{overlay-append, overlay-to-end}
-use Rattle.base.proofs.Fill.{Copied}
+use Rattle.base.proofs.Bytes.{overlay-to-end}
 use Rattle.base.proofs.Lists.{drop-take}
 use Rattle.name.proofs.WireLaws.{proper-some, proper-short}
 use Rattle.slots.specs.Form.{TableEntry, slotBytes, WellFormed, IsSlot, usedSlots, tableBytes, IsTable}
-use Rattle.slots.specs.Promise.{Entries, nameAt, closedUp}
+use Rattle.slots.specs.Promise.{Entries, nameAt}
 use Rattle.slots.specs.Sizes.{slotSize}
 use Rattle.slots.proofs.LaidLaws.{length-slot, slot-length, slot-name}
 use Rattle.slots.proofs.NameLaws.{EntryAt, entry-at}
@@ -252,23 +251,3 @@ module _ (k : ℕ) (t : List TableEntry) (b : List ℕ) (h : IsTable k t b) (i :
     held-some some =
         let u = some-at more (λ z. some (ap length (name-is ∙ ap (λ (n : ℕ). take n (drop 1 (drop (slotSize * i) b))) (first-is ∙ z)))) in
         record { entry = u .entry; later = u .later; at = entry-at t i (u .entry) (u .later) (u .order); well-formed = u .well-formed; slot = u .slot; name = name-is ∙ u .name }
-
--- ---- a slot taken out
-
--- while the bytes behind a slot move up, those still to move stand where they stood
-pub read-behind : (b : List ℕ) (at : ℕ) (d : List ℕ) (i : ℕ) → at + slotSize ≤ length b → Copied b at (drop (at + slotSize) b) d i → getD d (at + slotSize + i) 0 ≡ getD (drop (at + slotSize) b) i 0
-read-behind b at d i fits c =
-    let on : at + i + slotSize ≡ at + slotSize + i = omega arith in
-    let same : drop (at + i) d ≡ drop (at + i) b = ap (drop (at + i)) (c .done) ∙ drop-paste b at (drop (at + slotSize) b) i (omega arith) (c .below) in
-    ap (λ (n : ℕ). getD d n 0) (sym on) ∙ sym (getD-drop (at + i) d slotSize 0) ∙ ap (λ (l : List ℕ). getD l slotSize 0) same
-    ∙ getD-drop (at + i) b slotSize 0 ∙ ap (λ (n : ℕ). getD b n 0) on ∙ sym (getD-drop (at + slotSize) b i 0)
-
--- then zeros in the last slot
-pub closed-up : (b : List ℕ) (at : ℕ) → at + slotSize ≤ length b → overlay (overlay b at (drop (at + slotSize) b)) (length b - slotSize) (replicate slotSize 0) ≡ closedUp b at
-unfolding closedUp
-closed-up b at fits =
-    let size = length-drop (at + slotSize) b in
-    let tail : at + length (drop (at + slotSize) b) ≡ length b - slotSize = omega arith in
-    ap (λ (n : ℕ). overlay (overlay b at (drop (at + slotSize) b)) n (replicate slotSize 0)) (sym tail) ∙ overlay-append b at (drop (at + slotSize) b) (replicate slotSize 0) (omega arith)
-    ∙ overlay-to-end b at (drop (at + slotSize) b ++ replicate slotSize 0) (simp length-append (omega (arith, length-replicate {A = ℕ} slotSize 0)))
-    ∙ sym (append-assoc (take at b) (drop (at + slotSize) b) (replicate slotSize 0))

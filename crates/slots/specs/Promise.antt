@@ -2,7 +2,7 @@
 use Prim.Native.Nat.{ℕ, _+_, _-_, _*_, _/_, _%_}
 use mathlib.Core.Bool.{Bool, false, cond}
 use mathlib.Core.Path.{_≡_}
-use mathlib.Core.List.{List, _++_}
+use mathlib.Core.List.{List}
 use mathlib.Core.Option.{Option, none, some}
 use lib.Dec.{eqb}
 use lib.ListN.{take, drop, getD, set, replicate}
@@ -30,10 +30,6 @@ OfTable limit b P = (t : List TableEntry) → IsTable limit t b → P t
 -- the bytes that stand for the name in slot i, by the length that stands before them
 unfoldable pub nameAt : List ℕ → ℕ → List ℕ
 nameAt b i = take (getD b (slotSize * i) 0) (drop (slotSize * i + 1) b)
-
--- the bytes with the slot at an offset taken out and an unused one at the end
-unfoldable pub closedUp : List ℕ → ℕ → List ℕ
-closedUp b at = take at b ++ drop (at + slotSize) b ++ replicate slotSize 0
 
 -- is the flag of that value, 1, 2 or 4, set?
 abbrev pub isSet : ℕ → ℕ → Bool

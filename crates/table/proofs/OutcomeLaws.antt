@@ -7,13 +7,14 @@ use mathlib.Core.Option.{none}
 use lib.Dec.{eqb}
 use lib.ListN.{length}
 use borrow.Author.Tests.{lt-ltb, le-ltb}
-use Rattle.base.specs.Bytes.{eqBytes}
+use Rattle.base.specs.Bytes.{eqBytes, closedUp}
 use Rattle.base.specs.declared.Answer.{Answer}
 use Rattle.base.specs.declared.Answer.the-variants.{Accepted, Refused}
 use Rattle.slots.specs.Effect.{entered, refreshed, takenOver, deleted, hasAddress}
 use Rattle.slots.specs.Entry.{addressOf}
 use Rattle.slots.specs.Form.{TableEntry, slotBytes, tableBytes, IsTable}
-use Rattle.slots.specs.Promise.{closedUp, holding, isAddress, removal}
+use Rattle.slots.specs.Promise.{holding, isAddress, removal}
+use Rattle.slots.specs.Sizes.{slotSize}
 use Rattle.slots.specs.declared.Family.{Family}
 use Rattle.slots.specs.declared.Holding.{Holding}
 use Rattle.slots.specs.declared.Holding.the-variants.{ByHand, ByThis, ByAnother}
@@ -47,7 +48,7 @@ module _ (k : ℕ) (n : List ℕ) (t : List TableEntry) (b : List ℕ) (r : Answ
   unchanged-results num h a e = record { answer = a; table = e ∙ h .form }
 
   -- a remove at the slot at an offset: with e there the bytes are those of `kept`, and without the slot those of `gone`
-  module _ (at : ℕ) (e : TableEntry) (kept gone : List TableEntry) (was : b ≡ tableBytes k t) (put : inSlot b at (slotBytes e) ≡ tableBytes k kept) (out : closedUp b at ≡ tableBytes k gone) where
+  module _ (at : ℕ) (e : TableEntry) (kept gone : List TableEntry) (was : b ≡ tableBytes k t) (put : inSlot b at (slotBytes e) ≡ tableBytes k kept) (out : closedUp slotSize b at ≡ tableBytes k gone) where
     removing-results : (h : Holding) (there more : Bool) → LeavesTable (removedAt (removal h there more) b at e) r left → Results k (removing h there t (cond more kept gone)) r left
     removing-results ByHand there more l = record { answer = l .answered; table = l .table ∙ was }
     removing-results ByThis true true l = record { answer = l .answered; table = l .table ∙ put }
@@ -88,7 +89,7 @@ module _ (k : ℕ) (n : List ℕ) (t : List TableEntry) (b : List ℕ) (r : Answ
     unfolding remove
     remove-none-results f′ table a e = rw f′ (unchanged-results 33 table a e)
 
-  pub clear-held-results : (at : ℕ) → HeldAt k n t b at → r ≡ Accepted 0 → left ≡ closedUp b at → Results k (clear t n) r left
+  pub clear-held-results : (at : ℕ) → HeldAt k n t b at → r ≡ Accepted 0 → left ≡ closedUp slotSize b at → Results k (clear t n) r left
   unfolding clear
   clear-held-results at h a e = rw (h .found, h .gone) (record { answer = a; table = e ∙ h .out })
 

@@ -9,10 +9,10 @@ use lib.Dec.{ltb}
 use lib.ListN.{length, take, drop, replicate}
 use lib.Seq.{drop-drop}
 use borrow.Author.Tests.{ltb-true, ltb-false}
+use Rattle.base.specs.Bytes.{closedUp}
 use Rattle.base.specs.declared.Answer.{Answer}
 use Rattle.slots.specs.Entry.{position}
 use Rattle.slots.specs.Form.{TableEntry, slotBytes, WellFormed, tableBytes, IsTable}
-use Rattle.slots.specs.Promise.{closedUp}
 use Rattle.slots.specs.Sizes.{slotSize}
 use Rattle.slots.proofs.TableLaws.{length-table}
 use Rattle.slots.proofs.SplitLaws.{entry-well-formed, entry-within, slot-there, replaced, taken-out, unused-there, appended}
@@ -56,7 +56,7 @@ module _ (k : ℕ) (n : List ℕ) (t : List TableEntry) (b : List ℕ) where
     pub slot : slotAt b at ≡ slotBytes entry
     pub fits : at + slotSize ≤ length b
     pub put : (f : TableEntry) → inSlot b at (slotBytes f) ≡ tableBytes k (before ++ f ∷ after)
-    pub out : closedUp b at ≡ tableBytes k (before ++ after)
+    pub out : closedUp slotSize b at ≡ tableBytes k (before ++ after)
 
   -- free at an offset: an unused slot, and the table with an entry there
   pub record FreeAt (at : ℕ) : Type 0 where
@@ -99,7 +99,7 @@ module _ (k : ℕ) (n : List ℕ) (t : List TableEntry) (b : List ℕ) where
           slot = ap (slotAt b) there ∙ slot-there k q e r b table;
           fits = omega (arith, there, within, length-table k (q ++ e ∷ r) b table);
           put = λ g. ap (λ (j : ℕ). take j b ++ slotBytes g ++ drop (j + slotSize) b) there ∙ replaced k q e r b table g;
-          out = ap (closedUp b) there ∙ taken-out k q e r b table;
+          out = ap (closedUp slotSize b) there ∙ taken-out k q e r b table;
         }
 
     pub held-at : (at : ℕ) → Held at ≡ slotFor k n t → HeldAt at

@@ -6,12 +6,12 @@ use mathlib.Core.List.{List, _++_}
 use mathlib.Core.Option.{Option, none, some}
 use lib.Dec.{eqb, ltb}
 use lib.ListN.{length, take, drop}
+use Rattle.base.specs.Bytes.{closedUp}
 use Rattle.base.specs.Refusal.{heldByAnother, keptByHand}
 use Rattle.base.specs.declared.Answer.{Answer}
 use Rattle.base.specs.declared.Answer.the-variants.{Accepted, Refused}
 use Rattle.slots.specs.Entry.{position}
 use Rattle.slots.specs.Form.{TableEntry, slotBytes, tableBytes}
-use Rattle.slots.specs.Promise.{closedUp}
 use Rattle.slots.specs.Sizes.{slotSize}
 use Rattle.slots.specs.declared.Holding.{Holding}
 use Rattle.slots.specs.declared.Holding.the-variants.{ByHand, ByThis, ByAnother}
@@ -66,7 +66,7 @@ pub record AtSlot : Type 0 where
 abbrev pub removedAt : Removal → List ℕ → ℕ → TableEntry → AtSlot
 removedAt (removal.Refused n) b at e = record { answer = Refused n 0; table = b }
 removedAt removal.Address b at e = record { answer = Accepted 0; table = inSlot b at (slotBytes e) }
-removedAt removal.Name b at e = record { answer = Accepted 0; table = closedUp b at }
+removedAt removal.Name b at e = record { answer = Accepted 0; table = closedUp slotSize b at }
 
 -- that is what was answered and left
 pub record LeavesTable (o : AtSlot) (r : Answer) (left : List ℕ) : Type 0 where

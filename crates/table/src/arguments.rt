@@ -7,34 +7,18 @@ use base::refusal::TABLE_NOT_SOUND;
 use base::refusal::UNKNOWN_SETTING;
 use name::wire::is_proper;
 use slot::address_size;
+use slot::family_of;
 use slot_row::is_sound;
-use slots::Family;
 ghost use mathlib.Core.Bool.{true};
 ghost use mathlib.Core.Path.{_≡_};
-ghost use Rattle.base.specs.Family.{KnownFamily};
 ghost use Rattle.base.specs.Logic.{Decides};
-ghost use Rattle.slots.specs.Entry.{familyOf};
 ghost use Rattle.slots.specs.Sizes.{mostNames};
 ghost use Rattle.table.specs.Calls as calls;
-
-// The number of a family, as a call gives it.
-const V4: u32 = 4;
-
-const V6: u32 = 6;
 
 // The policy for a name that another client holds.
 pub(crate) const FIRST_WINS: u32 = 0;
 
 const LATEST_WINS: u32 = 1;
-
-pub(crate) fn is_family(family: u32) -> bool
-    ensures { λ r. ⌜ Decides r (KnownFamily family) ⌝ }
-{
-    if family == V4 {
-        return true;
-    }
-    family == V6
-}
 
 pub(crate) fn is_policy(policy: u32) -> bool
     ensures { λ r. ⌜ Decides r (calls.KnownPolicy policy) ⌝ }
@@ -43,15 +27,6 @@ pub(crate) fn is_policy(policy: u32) -> bool
         return true;
     }
     policy == LATEST_WINS
-}
-
-pub(crate) fn family_of(family: u32) -> Family
-    ensures { λ r. ⌜ r ≡ familyOf family ⌝ }
-{
-    if family == V4 {
-        return Family::V4;
-    }
-    Family::V6
 }
 
 // The first fault of a table and a name: 40, 9; 0 where there is none.

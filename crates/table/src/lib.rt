@@ -4,13 +4,13 @@ pub mod slot_for;
 mod step;
 
 use arguments::argument_fault;
-use arguments::family_of;
-use arguments::is_family;
 use arguments::is_policy;
 use arguments::name_fault;
 use base::Answer;
 use base::refusal::NAME_NOT_HELD;
 use base::refusal::TABLE_NOT_SOUND;
+use slot::family_of;
+use slot::is_family;
 use slot_row::is_sound;
 ghost use Rattle.slots.specs.Sizes.{mostNames};
 ghost use Rattle.table.specs.Calls as calls;

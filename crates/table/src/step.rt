@@ -7,7 +7,7 @@ use base::refusal::HELD_BY_ANOTHER;
 use base::refusal::KEPT_BY_HAND;
 use base::refusal::NAME_NOT_HELD;
 use base::refusal::TABLE_FULL;
-use slot_row::close_up;
+use octets::close_up;
 use slots::Family;
 use slots::Holding;
 use slots::Removal;
@@ -88,7 +88,7 @@ fn remove_at(table: &mut [u8], at: usize, dhcid: &[u8], family: Family, address:
             Answer::Accepted(0)
         }
         Removal::Name => {
-            slot_row::close_up(table, at);
+            octets::close_up(table, slot::SIZE, at);
             Answer::Accepted(0)
         }
     }
@@ -144,7 +144,7 @@ pub(crate) fn clear(table: &mut [u8], name: &[u8]) -> Answer
     let slot = slot_for(table, name);
     match slot {
         SlotFor::Held(at) => {
-            close_up(table, at);
+            close_up(table, slot::SIZE, at);
             Answer::Accepted(0)
         }
         SlotFor::Free(_) => Answer::refused(NAME_NOT_HELD),

@@ -1,8 +1,8 @@
 use mathlib.Core.Logic.{inl, inr, ⊎-elim}
 use borrow.Author.Tests.{eqb-true, eqb-false}
 use Rattle.base.proofs.Tests.{yes-by}
-use Rattle.table.proofs.arguments.is_family.Statement.{statement}
-use Rattle.table.proofs.arguments.is_family.Tie as tie
+use Rattle.slot.proofs.is_family.Statement.{statement}
+use Rattle.slot.proofs.is_family.Tie as tie
 
 returns : tie.Need-returns
 returns c = yes-by (inl (c .if1 .taken))

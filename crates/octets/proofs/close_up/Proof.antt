@@ -4,10 +4,9 @@ use mathlib.Core.List.{List}
 use lib.ListN.{replicate}
 use borrow.Author.Needs.{needs}
 use Rattle.base.specs.Bytes.{overlay}
-use Rattle.slots.proofs.TableLaws.{closed-up}
-use Rattle.slots.specs.Sizes.{slotSize}
-use Rattle.slot_row.proofs.close_up.Statement.{statement}
-use Rattle.slot_row.proofs.close_up.Tie as tie
+use Rattle.octets.proofs.CloseUpLaws.{closed-up}
+use Rattle.octets.proofs.close_up.Statement.{statement}
+use Rattle.octets.proofs.close_up.Tie as tie
 
 move-up-requires : tie.Need-move-up-requires
 move-up-requires c κs = search needs
@@ -25,11 +24,11 @@ returns : tie.Need-returns
 returns c =
     let m = c .before .before .before .before .before .before in
     let s = m .before .before .before in
-    let b = s .args .table .now in
-    let zeros : List ℕ = replicate slotSize 0 in
+    let b = s .args .row .now in
+    let zeros : List ℕ = replicate (s .args .size) 0 in
     c .before .before .put-zeros .ensures
-    ∙ (λ i. overlay (m .move-up .ensures i) (m .move-up .kept .0 i - slotSize) zeros)
-    ∙ closed-up b (s .args .at) (s .pre)
+    ∙ (λ i. overlay (m .move-up .ensures i) (m .move-up .kept .0 i - s .args .size) zeros)
+    ∙ closed-up (s .args .size) b (s .args .at) (s .pre)
 
 pub close-up-spec : {M : Type 1} → statement M
 close-up-spec =

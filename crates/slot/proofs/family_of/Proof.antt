@@ -1,7 +1,7 @@
 use mathlib.Core.Path.{sym}
 use borrow.Author.Tests.{ne-eqb}
-use Rattle.table.proofs.arguments.family_of.Statement.{statement}
-use Rattle.table.proofs.arguments.family_of.Tie as tie
+use Rattle.slot.proofs.family_of.Statement.{statement}
+use Rattle.slot.proofs.family_of.Tie as tie
 
 returns : tie.Need-returns
 returns c = sym (rw (c .if1 .taken))
