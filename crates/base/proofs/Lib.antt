@@ -1,4 +1,5 @@
 pub mod Bytes
+pub mod RowLaws
 pub mod Fill
 pub mod Lists
 pub mod Tests

@@ -4,5 +4,6 @@ pub mod Answer
 pub mod Family
 pub mod Dhcid
 pub mod Bytes
+pub mod Rows
 pub mod Ascii
 pub mod Order

@@ -90,6 +90,18 @@ fn is_held_name(name: &[u8]) -> bool
     is_canonical(name)
 }
 
+// Is this a name as a slot has it: its length, the name in 255 bytes, and nothing after it? The table's slots begin with one, and those of the reverse side end with one.
+pub fn is_name_field(field: &[u8]) -> bool
+    requires { ⌜ length (now field) ≡ 256 ⌝ }
+    ensures { λ r. ⌜ Decides r (tests.NameField (now (field .entry))) ⌝ }
+{
+    let end = NAME + field[0] as usize;
+    if !is_held_name(&field[NAME..end]) {
+        return false;
+    }
+    are_zeros_by_chunks(&field[end..FLAGS])
+}
+
 // Do the flags and the fields agree?
 fn are_fields(slot: &[u8]) -> bool
     requires { ⌜ length (now slot) ≡ bodySize ⌝ }
@@ -120,12 +132,7 @@ pub fn is_slot(slot: &[u8]) -> bool
     requires { ⌜ length (now slot) ≡ bodySize ⌝ }
     ensures { λ r. ⌜ Decides r (IsSlot (now (slot .entry))) ⌝ }
 {
-    let end = NAME + slot[0] as usize;
-    if !is_held_name(&slot[NAME..end]) {
-        return false;
-    }
-    // nothing stands after the name
-    if !are_zeros_by_chunks(&slot[end..FLAGS]) {
+    if !is_name_field(&slot[0..FLAGS]) {
         return false;
     }
     are_fields(slot)

@@ -1,4 +1,5 @@
 pub mod LaidLaws
+pub mod NameFieldLaws
 pub mod FlagLaws
 pub mod TableLaws
 pub mod NameLaws

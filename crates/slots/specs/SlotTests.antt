@@ -2,8 +2,9 @@
 use Prim.Native.Nat.{ℕ, _≤_}
 use mathlib.Core.Bool.{true, false}
 use mathlib.Core.Path.{_≡_}
-use mathlib.Core.List.{List}
+use mathlib.Core.List.{List, _∷_}
 use lib.ListN.{length, take, drop, getD, replicate}
+use Rattle.base.specs.Bytes.{padded}
 use Rattle.base.specs.Dhcid.{wellFormed}
 use Rattle.name.specs.Name.{Proper, canonical}
 use Rattle.slots.specs.Promise.{isSet}
@@ -15,6 +16,10 @@ use Rattle.slots.specs.declared.Rtype.the-variants.{A, Aaaa, Dhcid}
 pub record HeldName (n : List ℕ) : Type 0 where
   pub proper : Proper n
   pub lower : canonical n ≡ n
+
+-- the bytes s are a name's as a slot has it: its wire length, the name in 255 bytes, zeros after it
+unfoldable pub NameField : List ℕ → Type 0
+NameField s = (n : List ℕ) × HeldName n × (s ≡ length n ∷ padded n)
 
 -- the field x is zeros where the flag of that value is not set
 abbrev pub ZeroUnlessSet : ℕ → ℕ → List ℕ → Type 0

@@ -1,91 +1,46 @@
-use Prim.Native.Nat.{_+_}
-use mathlib.Core.Path.{refl}
-use denote.Ref.{now}
-use native.Mathlib.Omega.{arith}
-use lib.ListN.{getD}
+use borrow.Author.Needs.{needs}
 use borrow.Author.Tests.{not-true, not-false}
 use Rattle.base.proofs.Tests.{no-by, decides-as}
-use Rattle.slots.proofs.SlotLaws.{slot-held-name, slot-rest, slot-fields, is-slot}
-use borrow.Author.Needs.{needs}
+use Rattle.slots.proofs.SlotLaws.{slot-name-field, slot-fields, is-slot}
 use Rattle.slot.proofs.is_slot.Statement.{statement}
 use Rattle.slot.proofs.is_slot.Tie as tie
 
-shared-slice-read-end : tie.Need-shared-slice-read-end
-shared-slice-read-end c = search needs
+sub-is-name-field : tie.Need-sub-is-name-field
+sub-is-name-field c = search needs
 
-cast-end : tie.Need-cast-end
-cast-end c = omega (arith, c .shared-slice-known2 .given 0)
+part-is-name-field-start : tie.Need-part-is-name-field-start
+part-is-name-field-start c = search needs
 
-add-end : tie.Need-add-end
-add-end c = omega (arith, c .shared-slice-known2 .given 0)
+part-is-name-field-end : tie.Need-part-is-name-field-end
+part-is-name-field-end c = search needs
 
-sub-is-held-name : tie.Need-sub-is-held-name
-sub-is-held-name c = search needs
-
-part-is-held-name-start : tie.Need-part-is-held-name-start
-part-is-held-name-start c = search needs
-
-part-is-held-name-end : tie.Need-part-is-held-name-end
-part-is-held-name-end c = omega (arith, c .shared-slice-known2 .given 0)
-
-is-held-name-requires : tie.Need-is-held-name-requires
-is-held-name-requires c κs = search needs
+is-name-field-requires : tie.Need-is-name-field-requires
+is-name-field-requires c κs = search needs
 
 returns : tie.Need-returns
 returns c =
-    let s = now (c .before .before .before .before .before .args .slot) in
-    let is = c .before .is-held-name in
-    no-by (λ h. is .ensures .if-false (not-true (is .result) (c .if1 .taken)) (slot-held-name s (1 + getD s 0 0) refl (omega (arith, c .before .before .before .shared-slice-known2 .given 0)) h))
-
-sub-are-zeros-by-chunks : tie.Need-sub-are-zeros-by-chunks
-sub-are-zeros-by-chunks c = omega (arith, c .before .before .before .shared-slice-known2 .given 0)
-
-part-are-zeros-by-chunks-start : tie.Need-part-are-zeros-by-chunks-start
-part-are-zeros-by-chunks-start c = omega (arith, c .before .before .before .shared-slice-known2 .given 0)
-
-part-are-zeros-by-chunks-end : tie.Need-part-are-zeros-by-chunks-end
-part-are-zeros-by-chunks-end c = search needs
-
-are-zeros-by-chunks-requires : tie.Need-are-zeros-by-chunks-requires
-are-zeros-by-chunks-requires c κs = search needs
-
-returns-2 : tie.Need-returns-2
-returns-2 c =
-    let s = now (c .before .before .before .before .before .before .before .before .args .slot) in
-    let is = c .before .are-zeros-by-chunks in
-    no-by (λ h. is .ensures .if-false (not-true (is .result) (c .if2 .taken)) (slot-rest s (1 + getD s 0 0) refl (omega (arith, c .before .before .before .before .before .before .shared-slice-known2 .given 0)) h))
+    let name = c .before .is-name-field in
+    no-by (λ h. name .ensures .if-false (not-true (name .result) (c .if1 .taken)) (slot-name-field _ h))
 
 are-fields-requires : tie.Need-are-fields-requires
 are-fields-requires c κs = search needs
 
-returns-3 : tie.Need-returns-3
-returns-3 c =
-    let s = now (c .before .before .before .before .before .before .before .before .before .args .slot) in
-    let name = c .before .before .before .before .before .is-held-name in
-    let rest = c .before .before .are-zeros-by-chunks in
+returns-2 : tie.Need-returns-2
+returns-2 c =
+    let name = c .before .before .is-name-field in
     decides-as
-    (is-slot s (1 + getD s 0 0) refl (omega (arith, c .before .before .before .before .before .before .before .shared-slice-known2 .given 0)) (c .before .before .before .before .before .before .before .before .before .pre)
-    (name .ensures .if-true (not-false (name .result) (c .before .before .before .before .if1 .left)))
-    (rest .ensures .if-true (not-false (rest .result) (c .before .if2 .left))))
-    (slot-fields s)
+    (is-slot _ (c .before .before .before .before .before .pre) (name .ensures .if-true (not-false (name .result) (c .before .if1 .left))))
+    (slot-fields _)
     (c .are-fields .ensures)
 
 pub is-slot-spec : {M : Type 1} → statement M
 is-slot-spec =
     tie.close
     (tie.spec
-    shared-slice-read-end
-    cast-end
-    add-end
-    sub-is-held-name
-    part-is-held-name-start
-    part-is-held-name-end
-    is-held-name-requires
+    sub-is-name-field
+    part-is-name-field-start
+    part-is-name-field-end
+    is-name-field-requires
     returns
-    sub-are-zeros-by-chunks
-    part-are-zeros-by-chunks-start
-    part-are-zeros-by-chunks-end
-    are-zeros-by-chunks-requires
-    returns-2
     are-fields-requires
-    returns-3)
+    returns-2)

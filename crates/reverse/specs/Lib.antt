@@ -1,0 +1,4 @@
+pub mod Sizes
+pub mod Entry
+pub mod Form
+pub mod Promise
