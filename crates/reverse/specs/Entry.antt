@@ -1,5 +1,5 @@
 -- The reverse side as a list: addresses in order of arrival, each with the one name behind it. Document 02, K7 (docs/RULES.md, 12.2 to 12.4).
-use Prim.Native.Nat.{ℕ, suc}
+use Prim.Native.Nat.{ℕ}
 use mathlib.Core.Bool.{Bool, true, false, cond, _&&_, _||_}
 use mathlib.Core.Path.{_≡_}
 use mathlib.Core.List.{List, [], _∷_}
@@ -34,14 +34,14 @@ unfoldable pub behind : Family → List ℕ → List ReverseEntry → Option (Li
 behind f x [] = none
 behind f x (r ∷ rs) = cond (isAt f x r) (some (r .name)) (behind f x rs)
 
--- how many entries stand before that of an address; all of them where it has none
-unfoldable pub place : Family → List ℕ → List ReverseEntry → ℕ
-place f x [] = 0
-place f x (r ∷ rs) = cond (isAt f x r) 0 (suc (place f x rs))
+-- does the address stand?
+unfoldable pub standsAt : Family → List ℕ → List ReverseEntry → Bool
+standsAt f x [] = false
+standsAt f x (r ∷ rs) = isAt f x r || standsAt f x rs
 
--- refusal 46's test: the address stands, or there is room for another
+-- what refusal 46 asks: it stands, or there is room for another
 unfoldable pub hasPlace : ℕ → Family → List ℕ → List ReverseEntry → Bool
-hasPlace limit f x rs = ltb (place f x rs) limit
+hasPlace limit f x rs = standsAt f x rs || ltb (length rs) limit
 
 -- no address stands twice
 pub data Single : List ReverseEntry → Type 0 where

@@ -1,0 +1,4 @@
+pub mod EntryLaws
+pub mod SlotLaws
+pub mod SideLaws
+pub mod Theorems
