@@ -1,4 +1,4 @@
--- What an add comes to at one entry, by who holds it, and a remove at one slot. Assumes nothing.
+-- What an add comes to at one entry, by who holds it. Assumes nothing.
 use Prim.Native.Nat.{ℕ}
 use mathlib.Core.Bool.{Bool, true, false, cond}
 use mathlib.Core.Path.{_≡_, sym, subst}
@@ -10,8 +10,7 @@ use Rattle.base.specs.declared.Answer.the-variants.{Accepted, Refused}
 use Rattle.slots.specs.Form.{TableEntry, slotBytes}
 use Rattle.slots.specs.declared.Holding.{Holding}
 use Rattle.slots.specs.declared.Holding.the-variants.{ByHand, ByThis, ByAnother}
-use Rattle.slots.specs.declared.Removal.{Removal}
-use Rattle.table.specs.Promise.{LeavesEntry, addedAt, removedAt, LeavesTable}
+use Rattle.table.specs.Promise.{LeavesEntry, addedAt}
 
 module _ (e : TableEntry) (h : Holding) (r : Answer) (left : List ℕ) where
   module _ (policy : ℕ) (same taken : TableEntry) where
@@ -32,8 +31,3 @@ module _ (e : TableEntry) (h : Holding) (r : Answer) (left : List ℕ) where
     pub add-latest-wins : h ≡ ByAnother → (policy ≡ 0 → ⊥) → r ≡ Accepted 2 → left ≡ slotBytes taken → LeavesEntry (addedAt h policy e same taken) r left
     add-latest-wins k p a s =
         subst (λ (x : Holding). LeavesEntry (addedAt x policy e same taken) r left) (sym k) (contested-by false (ne-eqb policy 0 p) (record { answered = a; slot = s }))
-
--- what a remove comes to at a slot is known by what the slot says of it
-module _ (b : List ℕ) (at : ℕ) (e : TableEntry) (r : Answer) (left : List ℕ) (said : Removal) where
-  pub remove-as-said : {m : Removal} → m ≡ said → r ≡ removedAt said b at e .answer → left ≡ removedAt said b at e .table → LeavesTable (removedAt m b at e) r left
-  remove-as-said k a s = subst (λ (m : Removal). LeavesTable (removedAt m b at e) r left) (sym k) (record { answered = a; table = s })

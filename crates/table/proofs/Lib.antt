@@ -4,6 +4,7 @@ pub mod SlotForLaws
 pub mod EntryLaws
 pub mod StepLaws
 pub mod OutcomeLaws
+pub mod RemovalLaws
 pub mod CaseLaws
 pub mod OthersLaws
 pub mod SoundLaws

@@ -1,4 +1,4 @@
--- What is answered and left is the outcome of the step. Assumes nothing.
+-- What an add or a clear answers and leaves is the outcome of the step; of a remove: RemovalLaws.antt. Assumes nothing.
 use Prim.Native.Nat.{ℕ}
 use mathlib.Core.Bool.{Bool, true, false, cond}
 use mathlib.Core.Path.{_≡_, refl, sym, ap, _∙_}
@@ -10,16 +10,15 @@ use borrow.Author.Tests.{lt-ltb, le-ltb}
 use Rattle.base.specs.Bytes.{eqBytes, closedUp}
 use Rattle.base.specs.declared.Answer.{Answer}
 use Rattle.base.specs.declared.Answer.the-variants.{Accepted, Refused}
-use Rattle.slots.specs.Effect.{entered, refreshed, takenOver, deleted, hasAddress}
-use Rattle.slots.specs.Entry.{addressOf}
+use Rattle.slots.specs.Effect.{entered, refreshed, takenOver}
 use Rattle.slots.specs.Form.{TableEntry, slotBytes, tableBytes, IsTable}
-use Rattle.slots.specs.Promise.{holding, isAddress, removal}
+use Rattle.slots.specs.Promise.{holding}
 use Rattle.slots.specs.Sizes.{slotSize}
 use Rattle.slots.specs.declared.Family.{Family}
 use Rattle.slots.specs.declared.Holding.{Holding}
 use Rattle.slots.specs.declared.Holding.the-variants.{ByHand, ByThis, ByAnother}
-use Rattle.table.specs.Steps.{StepOutcome, find, adding, acceptedWith, refusedWith, add, removing, remove, clear}
-use Rattle.table.specs.Promise.{AtEntry, inSlot, LeavesSlot, addedAt, removedAt, LeavesTable, Results}
+use Rattle.table.specs.Steps.{StepOutcome, find, adding, acceptedWith, refusedWith, add, clear}
+use Rattle.table.specs.Promise.{AtEntry, inSlot, LeavesSlot, addedAt, Results}
 use Rattle.table.proofs.StepLaws.{HeldAt, FreeAt, FullUp}
 
 -- the outcome o is that of a step at the entry between p and r
@@ -47,47 +46,24 @@ module _ (k : ℕ) (n : List ℕ) (t : List TableEntry) (b : List ℕ) (r : Answ
   pub unchanged-results : (num : ℕ) → IsTable k t b → r ≡ Refused num 0 → left ≡ b → Results k (refusedWith num t) r left
   unchanged-results num h a e = record { answer = a; table = e ∙ h .form }
 
-  -- a remove at the slot at an offset: with e there the bytes are those of `kept`, and without the slot those of `gone`
-  module _ (at : ℕ) (e : TableEntry) (kept gone : List TableEntry) (was : b ≡ tableBytes k t) (put : inSlot b at (slotBytes e) ≡ tableBytes k kept) (out : closedUp slotSize b at ≡ tableBytes k gone) where
-    removing-results : (h : Holding) (there more : Bool) → LeavesTable (removedAt (removal h there more) b at e) r left → Results k (removing h there t (cond more kept gone)) r left
-    removing-results ByHand there more l = record { answer = l .answered; table = l .table ∙ was }
-    removing-results ByThis true true l = record { answer = l .answered; table = l .table ∙ put }
-    removing-results ByThis true false l = record { answer = l .answered; table = l .table ∙ out }
-    removing-results ByThis false more l = record { answer = l .answered; table = l .table ∙ was }
-    removing-results ByAnother there more l = record { answer = l .answered; table = l .table ∙ was }
-
-  module _ (d : List ℕ) (f : Family) (x : List ℕ) where
-    module _ (policy : ℕ) where
-      pub add-held-results : (at : ℕ) (h : HeldAt k n t b at)
-          → LeavesSlot b at (addedAt (holding eqBytes (h .entry .holder) d) policy (h .entry) (refreshed f x (h .entry)) (takenOver d f x (h .entry))) r left
-          → Results k (add k eqBytes t n d f x policy) r left
-      unfolding add
-      add-held-results at h l =
-          rw (h .found)
-          (at-results at h _ _
-          (adding-at (h .before) (h .after) (h .entry) t (h .cut) (holding eqBytes (h .entry .holder) d) policy (refreshed f x (h .entry)) (takenOver d f x (h .entry)) _ _
-          (h .change (refreshed f x)) (h .change (takenOver d f x))) l)
-
-      pub add-free-results : (at : ℕ) → FreeAt k n t b at → r ≡ Accepted 0 → left ≡ inSlot b at (slotBytes (entered n d f x)) → Results k (add k eqBytes t n d f x policy) r left
-      unfolding add
-      add-free-results at h a e = rw (h .found, lt-ltb (length t) k (h .room)) (record { answer = a; table = e ∙ h .put (entered n d f x) })
-
-      pub add-full-results : FullUp k n t b → IsTable k t b → r ≡ Refused 32 0 → left ≡ b → Results k (add k eqBytes t n d f x policy) r left
-      unfolding add
-      add-full-results h table a e = rw (h .found, le-ltb (length t) k (h .full)) (unchanged-results 32 table a e)
-
-    pub remove-held-results : (at : ℕ) (h : HeldAt k n t b at) → IsTable k t b
-        → LeavesTable (removedAt (removal (holding eqBytes (h .entry .holder) d) (isAddress (addressOf f (h .entry)) x) (hasAddress (deleted f (h .entry)))) b at (deleted f (h .entry))) r left
-        → Results k (remove eqBytes t n d f x) r left
-    unfolding remove
-    remove-held-results at h table l =
+  module _ (d : List ℕ) (f : Family) (x : List ℕ) (policy : ℕ) where
+    pub add-held-results : (at : ℕ) (h : HeldAt k n t b at)
+        → LeavesSlot b at (addedAt (holding eqBytes (h .entry .holder) d) policy (h .entry) (refreshed f x (h .entry)) (takenOver d f x (h .entry))) r left
+        → Results k (add k eqBytes t n d f x policy) r left
+    unfolding add
+    add-held-results at h l =
         rw (h .found)
-        (removing-results at (deleted f (h .entry)) _ _ (table .form) (h .put (deleted f (h .entry)) ∙ ap (tableBytes k) (sym (h .change (deleted f)))) (h .out ∙ ap (tableBytes k) (sym (h .gone)))
-        (holding eqBytes (h .entry .holder) d) (isAddress (addressOf f (h .entry)) x) (hasAddress (deleted f (h .entry))) l)
+        (at-results at h _ _
+        (adding-at (h .before) (h .after) (h .entry) t (h .cut) (holding eqBytes (h .entry .holder) d) policy (refreshed f x (h .entry)) (takenOver d f x (h .entry)) _ _
+        (h .change (refreshed f x)) (h .change (takenOver d f x))) l)
 
-    pub remove-none-results : find n t ≡ none → IsTable k t b → r ≡ Refused 33 0 → left ≡ b → Results k (remove eqBytes t n d f x) r left
-    unfolding remove
-    remove-none-results f′ table a e = rw f′ (unchanged-results 33 table a e)
+    pub add-free-results : (at : ℕ) → FreeAt k n t b at → r ≡ Accepted 0 → left ≡ inSlot b at (slotBytes (entered n d f x)) → Results k (add k eqBytes t n d f x policy) r left
+    unfolding add
+    add-free-results at h a e = rw (h .found, lt-ltb (length t) k (h .room)) (record { answer = a; table = e ∙ h .put (entered n d f x) })
+
+    pub add-full-results : FullUp k n t b → IsTable k t b → r ≡ Refused 32 0 → left ≡ b → Results k (add k eqBytes t n d f x policy) r left
+    unfolding add
+    add-full-results h table a e = rw (h .found, le-ltb (length t) k (h .full)) (unchanged-results 32 table a e)
 
   pub clear-held-results : (at : ℕ) → HeldAt k n t b at → r ≡ Accepted 0 → left ≡ closedUp slotSize b at → Results k (clear t n) r left
   unfolding clear

@@ -50,6 +50,7 @@ module _ (k : ℕ) (n : List ℕ) (t : List TableEntry) (b : List ℕ) where
     pub after : List TableEntry
     pub cut : t ≡ before ++ entry ∷ after
     pub found : find n t ≡ some entry
+    pub offset : at ≡ slotSize * position n t
     pub change : (f : TableEntry → TableEntry) → changed n f t ≡ before ++ f entry ∷ after
     pub gone : without n t ≡ before ++ after
     pub well-formed : WellFormed entry
@@ -93,6 +94,7 @@ module _ (k : ℕ) (n : List ℕ) (t : List TableEntry) (b : List ℕ) where
           after = r;
           cut = cut;
           found = f;
+          offset = offset;
           change = change;
           gone = gone;
           well-formed = entry-well-formed k q e r b table;

@@ -1,25 +1,30 @@
 -- What the parts of a call promise one another.
-use Prim.Native.Nat.{ℕ, _+_, _*_}
+use Prim.Native.Nat.{ℕ, _+_, _*_, _≤_}
 use mathlib.Core.Bool.{cond}
 use mathlib.Core.Path.{_≡_}
 use mathlib.Core.List.{List, _++_}
 use mathlib.Core.Option.{Option, none, some}
 use lib.Dec.{eqb, ltb}
 use lib.ListN.{length, take, drop}
-use Rattle.base.specs.Bytes.{closedUp}
-use Rattle.base.specs.Refusal.{heldByAnother, keptByHand}
+use Rattle.base.specs.Bytes.{eqBytes, closedUp}
+use Rattle.base.specs.Refusal.{heldByAnother, keptByHand, nameNotHeld}
 use Rattle.base.specs.declared.Answer.{Answer}
 use Rattle.base.specs.declared.Answer.the-variants.{Accepted, Refused}
-use Rattle.slots.specs.Entry.{position}
-use Rattle.slots.specs.Form.{TableEntry, slotBytes, tableBytes}
+use Rattle.slots.specs.Effect.{deleted, hasAddress}
+use Rattle.slots.specs.Entry.{position, addressOf}
+use Rattle.slots.specs.Form.{TableEntry, slotBytes, IsSlot, tableBytes}
+use Rattle.slots.specs.Promise.{OfSlot, holding, isAddress, removal}
 use Rattle.slots.specs.Sizes.{slotSize}
+use Rattle.slots.specs.declared.Family.{Family}
 use Rattle.slots.specs.declared.Holding.{Holding}
 use Rattle.slots.specs.declared.Holding.the-variants.{ByHand, ByThis, ByAnother}
 use Rattle.slots.specs.declared.Removal.{Removal}
-use Rattle.slots.specs.declared.Removal.the-variants as removal
+use Rattle.slots.specs.declared.Removal.the-variants as says
 use Rattle.table.specs.Steps.{StepOutcome, find}
 use Rattle.table.specs.declared.slot_for.SlotFor.{SlotFor}
 use Rattle.table.specs.declared.slot_for.SlotFor.the-variants.{Held, Free, Full}
+use Rattle.table.specs.declared.step.RemovalFor.{RemovalFor}
+use Rattle.table.specs.declared.step.RemovalFor.the-variants as comes
 
 -- where a name stands, or would: by the offset of its slot
 abbrev pub slotBy : Option TableEntry → ℕ → ℕ → ℕ → SlotFor
@@ -57,21 +62,37 @@ addedAt ByHand policy e same taken = record { answer = Refused keptByHand 0; ent
 addedAt ByThis policy e same taken = record { answer = Accepted 1; entry = same }
 addedAt ByAnother policy e same taken = cond (eqb policy 0) (record { answer = Refused heldByAnother 0; entry = e }) (record { answer = Accepted 2; entry = taken })
 
--- what a remove comes to at the slot at an offset: the answer, and the table that is then left
-pub record AtSlot : Type 0 where
-  pub answer : Answer
-  pub table : List ℕ
+-- what a remove comes to, by what the slot at an offset says of it
+abbrev pub removalAt : Removal → ℕ → RemovalFor
+removalAt (says.Refused n) at = comes.Refused n
+removalAt says.Address at = comes.Address at
+removalAt says.Name at = comes.Name at
 
--- by what the slot says of it, with the entry that is left where the name stays
-abbrev pub removedAt : Removal → List ℕ → ℕ → TableEntry → AtSlot
-removedAt (removal.Refused n) b at e = record { answer = Refused n 0; table = b }
-removedAt removal.Address b at e = record { answer = Accepted 0; table = inSlot b at (slotBytes e) }
-removedAt removal.Name b at e = record { answer = Accepted 0; table = closedUp slotSize b at }
+-- and by what stands under the name
+abbrev pub removalBy : Option TableEntry → ℕ → List ℕ → Family → List ℕ → RemovalFor
+removalBy none at d f x = comes.Refused nameNotHeld
+removalBy (some e) at d f x = removalAt (removal (holding eqBytes (e .holder) d) (isAddress (addressOf f e) x) (hasAddress (deleted f e))) at
 
--- that is what was answered and left
-pub record LeavesTable (o : AtSlot) (r : Answer) (left : List ℕ) : Type 0 where
-  pub answered : r ≡ o .answer
-  pub table : left ≡ o .table
+-- what a remove comes to, under the name n of the entries t, for the client with the DHCID d, of the address x of the family f: by the offset of the name's slot
+unfoldable pub removalFor : List TableEntry → List ℕ → List ℕ → Family → List ℕ → RemovalFor
+removalFor t n d f x = removalBy (find n t) (slotSize * position n t) d f x
+
+-- it can be carried out in the bytes b: the slot is there, and is an entry's where its address is deleted
+abbrev pub CanCarryOut : RemovalFor → List ℕ → Type 0
+CanCarryOut (comes.Refused n) b = Unit {0}
+CanCarryOut (comes.Address at) b = (at + slotSize ≤ length b) × IsSlot (slotAt b at)
+CanCarryOut (comes.Name at) b = at + slotSize ≤ length b
+
+-- that answer was given, and those bytes left
+pub record LeavesTable (answer : Answer) (table : List ℕ) (r : Answer) (left : List ℕ) : Type 0 where
+  pub answered : r ≡ answer
+  pub bytes : left ≡ table
+
+-- it was carried out in the bytes b, of the family f
+abbrev pub CarriesOut : RemovalFor → Family → List ℕ → Answer → List ℕ → Type 0
+CarriesOut (comes.Refused n) f b r left = LeavesTable (Refused n 0) b r left
+CarriesOut (comes.Address at) f b r left = OfSlot (slotAt b at) (λ e. LeavesTable (Accepted 0) (inSlot b at (slotBytes (deleted f e))) r left)
+CarriesOut (comes.Name at) f b r left = LeavesTable (Accepted 0) (closedUp slotSize b at) r left
 
 -- the answer and the bytes left are those of an outcome
 pub record Results (limit : ℕ) (o : StepOutcome (List ℕ)) (r : Answer) (left : List ℕ) : Type 0 where

@@ -1,7 +1,7 @@
 // The table of names: add, remove and clear, find and count. A call decides first and writes last, so a refused one has written nothing.
 mod arguments;
 pub mod slot_for;
-mod step;
+pub mod step;
 
 use arguments::argument_fault;
 use arguments::is_policy;

@@ -1,4 +1,5 @@
-// The three steps on a sound table, with sound arguments.
+// The three steps on a sound table, with sound arguments. That of a remove is two, one that reads and decides and one that writes: so a caller can write elsewhere
+// between them.
 use crate::arguments::FIRST_WINS;
 use crate::slot_for::SlotFor;
 use crate::slot_for::slot_for;
@@ -26,6 +27,16 @@ ghost use Rattle.slots.specs.Sizes.{mostNames, slotSize};
 ghost use Rattle.table.specs.Promise as spec;
 ghost use Rattle.table.specs.Promise.{slotAt};
 ghost use Rattle.table.specs.Steps as step;
+
+// What a remove comes to, and in which slot.
+pub enum RemovalFor {
+    // refused with this number
+    Refused(u32),
+    // the address is deleted in the slot at this offset
+    Address(usize),
+    // the slot at this offset is taken out, since no address would be left in it
+    Name(usize),
+}
 
 // An add to a name that stands.
 fn add_held(slot: &mut [u8], dhcid: &[u8], family: Family, address: &[u8], policy: u32) -> Answer
@@ -74,28 +85,31 @@ fn enter_at(table: &mut [u8], at: usize, name: &[u8], dhcid: &[u8], family: Fami
     slot_change::enter(&mut table[at..end], name, dhcid, family, address);
 }
 
-// A remove from the name whose slot is at `at`.
-fn remove_at(table: &mut [u8], at: usize, dhcid: &[u8], family: Family, address: &[u8]) -> Answer
+// What a remove from the name whose slot is at `at` comes to.
+fn removal_at(table: &[u8], at: usize, dhcid: &[u8], family: Family, address: &[u8]) -> RemovalFor
     requires { ⌜ (at + slotSize ≤ length (now table)) × (IsSlot (slotAt (now table) at)) ⌝ }
-    ensures { λ r. ⌜ OfSlot (slotAt (now (table .entry)) at) (λ e. spec.LeavesTable (spec.removedAt (removal (holding eqBytes (e .holder) (now (dhcid .entry))) (isAddress (addressOf family e) (now (address .entry))) (effect.hasAddress (effect.deleted family e))) (now (table .entry)) at (effect.deleted family e)) r (now (table .exit))) ⌝ }
+    ensures { λ r. ⌜ OfSlot (slotAt (now (table .entry)) at) (λ e. r ≡ spec.removalAt (removal (holding eqBytes (e .holder) (now (dhcid .entry))) (isAddress (addressOf family e) (now (address .entry))) (effect.hasAddress (effect.deleted family e))) at) ⌝ }
 {
     let end = at + slot::SIZE;
     let removal = slot::removal(&table[at..end], dhcid, family, address);
     match removal {
-        Removal::Refused(number) => Answer::refused(number),
-        Removal::Address => {
-            slot_change::delete(&mut table[at..end], family);
-            Answer::Accepted(0)
-        }
-        Removal::Name => {
-            octets::close_up(table, slot::SIZE, at);
-            Answer::Accepted(0)
-        }
+        Removal::Refused(number) => RemovalFor::Refused(number),
+        Removal::Address => RemovalFor::Address(at),
+        Removal::Name => RemovalFor::Name(at),
     }
 }
 
+// Deletes the address of this family in the slot at `at`.
+fn delete_at(table: &mut [u8], at: usize, family: Family)
+    requires { ⌜ (at + slotSize ≤ length (now table)) × (IsSlot (slotAt (now table) at)) ⌝ }
+    ensures { λ _. ⌜ OfSlot (slotAt (now (table .entry)) at) (λ e. now (table .exit) ≡ spec.inSlot (now (table .entry)) at (slotBytes (effect.deleted family e))) ⌝ }
+{
+    let end = at + slot::SIZE;
+    slot_change::delete(&mut table[at..end], family);
+}
+
 // The step of an add: to a name that stands, or to a new one.
-pub(crate) fn add(
+pub fn add(
     table: &mut [u8],
     name: &[u8],
     dhcid: &[u8],
@@ -117,23 +131,50 @@ pub(crate) fn add(
     }
 }
 
-// The step of a remove.
-pub(crate) fn remove(
-    table: &mut [u8],
+// What does a remove of this address by the client with this DHCID come to? Nothing is written.
+pub fn removal_for(
+    table: &[u8],
     name: &[u8],
     dhcid: &[u8],
     family: Family,
     address: &[u8],
-) -> Answer
+) -> RemovalFor
     requires { ⌜ Sound mostNames (now table) ⌝ }
-    ensures { λ r. ⌜ OfTable mostNames (now (table .entry)) (λ t. spec.Results mostNames (step.remove eqBytes t (canonical (now (name .entry))) (now (dhcid .entry)) family (now (address .entry))) r (now (table .exit))) ⌝ }
+    ensures { λ r. ⌜ OfTable mostNames (now (table .entry)) (λ t. r ≡ spec.removalFor t (canonical (now (name .entry))) (now (dhcid .entry)) family (now (address .entry))) ⌝ }
 {
     let slot = slot_for(table, name);
     match slot {
-        SlotFor::Held(at) => remove_at(table, at, dhcid, family, address),
-        SlotFor::Free(_) => Answer::refused(NAME_NOT_HELD),
-        SlotFor::Full => Answer::refused(NAME_NOT_HELD),
+        SlotFor::Held(at) => removal_at(table, at, dhcid, family, address),
+        SlotFor::Free(_) => RemovalFor::Refused(NAME_NOT_HELD),
+        SlotFor::Full => RemovalFor::Refused(NAME_NOT_HELD),
     }
+}
+
+// Does what a remove of this family's address comes to. The name is not looked up again, so the table has to be as it was when that was asked.
+pub fn carry_out(table: &mut [u8], removal: RemovalFor, family: Family) -> Answer
+    requires { ⌜ spec.CanCarryOut removal (now table) ⌝ }
+    ensures { λ r. ⌜ spec.CarriesOut removal family (now (table .entry)) r (now (table .exit)) ⌝ }
+{
+    match removal {
+        RemovalFor::Refused(number) => Answer::refused(number),
+        RemovalFor::Address(at) => {
+            delete_at(table, at, family);
+            Answer::Accepted(0)
+        }
+        RemovalFor::Name(at) => {
+            octets::close_up(table, slot::SIZE, at);
+            Answer::Accepted(0)
+        }
+    }
+}
+
+// The step of a remove.
+pub fn remove(table: &mut [u8], name: &[u8], dhcid: &[u8], family: Family, address: &[u8]) -> Answer
+    requires { ⌜ Sound mostNames (now table) ⌝ }
+    ensures { λ r. ⌜ OfTable mostNames (now (table .entry)) (λ t. spec.Results mostNames (step.remove eqBytes t (canonical (now (name .entry))) (now (dhcid .entry)) family (now (address .entry))) r (now (table .exit))) ⌝ }
+{
+    let removal = removal_for(table, name, dhcid, family, address);
+    carry_out(table, removal, family)
 }
 
 // The step of a clear.
