@@ -30,11 +30,9 @@ module _ (t : Test) (ts us : List Test) where
     pub part-fails : (n ≡ 0 → ⊥) → FirstFault ts n → Judged (t ∷ (ts ++ us)) n
     part-fails nz f = inr (nz, inr (first, fault-before ts us n f))
 
-    pub rest-fails : (n ≡ 0 → ⊥) → AllHold ts → FirstFault us n → Judged (t ∷ (ts ++ us)) n
-    rest-fails nz h f = inr (nz, inr (first, fault-after ts us n h f))
-
-    pub none-fails : n ≡ 0 → AllHold ts → AllHold us → Judged (t ∷ (ts ++ us)) n
-    none-fails z h k = inl (z, (first, hold-both ts us h k))
+    pub rest-judged : AllHold ts → Judged us n → Judged (t ∷ (ts ++ us)) n
+    rest-judged h (inl j) = inl (j .0, (first, hold-both ts us h (j .1)))
+    rest-judged h (inr j) = inr (j .0, inr (first, fault-after ts us n h (j .1)))
 
 -- ---- another statement for the first test
 

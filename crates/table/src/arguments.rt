@@ -1,4 +1,4 @@
-// What is tested before a step, in document 01's order (docs/RULES.md, 7.3 to 7.5).
+// What is tested before a step, in document 01's order (docs/RULES.md, 7.3 to 7.5). A lease tests a policy and a client as an add does.
 use base::dhcid::is_well_formed;
 use base::refusal::ADDRESS_LENGTH;
 use base::refusal::NO_PROPER_NAME;
@@ -20,7 +20,7 @@ pub(crate) const FIRST_WINS: u32 = 0;
 
 const LATEST_WINS: u32 = 1;
 
-pub(crate) fn is_policy(policy: u32) -> bool
+pub fn is_policy(policy: u32) -> bool
     ensures { λ r. ⌜ Decides r (calls.KnownPolicy policy) ⌝ }
 {
     if policy == FIRST_WINS {
@@ -38,6 +38,19 @@ pub(crate) fn name_fault(table: &[u8], name: &[u8]) -> u32
     }
     if !is_proper(name) {
         return NO_PROPER_NAME;
+    }
+    0
+}
+
+// The first fault of a client and its address: 15, 16; 0 where there is none.
+pub fn client_fault(dhcid: &[u8], family: u32, address: &[u8]) -> u32
+    ensures { λ r. ⌜ calls.Judged (calls.clientTests (now (dhcid .entry)) family (now (address .entry))) r ⌝ }
+{
+    if !is_well_formed(dhcid) {
+        return NOT_A_DHCID;
+    }
+    if address.len() != address_size(family_of(family)) {
+        return ADDRESS_LENGTH;
     }
     0
 }
@@ -60,11 +73,5 @@ pub(crate) fn argument_fault(
     if fault != 0 {
         return fault;
     }
-    if !is_well_formed(dhcid) {
-        return NOT_A_DHCID;
-    }
-    if address.len() != address_size(family_of(family)) {
-        return ADDRESS_LENGTH;
-    }
-    0
+    client_fault(dhcid, family, address)
 }

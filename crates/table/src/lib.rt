@@ -1,5 +1,5 @@
 // The table of names: add, remove and clear, find and count. A call decides first and writes last, so a refused one has written nothing.
-mod arguments;
+pub mod arguments;
 pub mod slot_for;
 pub mod step;
 
