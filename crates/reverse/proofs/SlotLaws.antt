@@ -23,7 +23,7 @@ use Rattle.reverse.proofs.EntryLaws.{at-family, at-address}
 
 -- ---- family and address
 
-size-short : (f : Family) → addressSize f ≤ 16
+pub size-short : (f : Family) → addressSize f ≤ 16
 size-short V4 = omega arith
 size-short V6 = omega arith
 

@@ -1,0 +1,10 @@
+pub mod AddLaws
+pub mod RemovalLaws
+pub mod CutLaws
+pub mod PlanLaws
+pub mod RunLaws
+pub mod LeaseLaws
+pub mod CallLaws
+pub mod AgainLaws
+pub mod StoredLaws
+pub mod Theorems
