@@ -5,12 +5,6 @@
 
 _Static_assert(sizeof(struct slot) == VICHRELKA_SLOT_LEN, "a slot is as the header says");
 
-/* a name as it is stored, in lower case */
-struct name {
-    size_t len;
-    uint8_t bytes[NAME_LIMIT];
-};
-
 static const struct slot NOTHING;
 
 /* what may stand in a label, in lower case */
@@ -39,9 +33,11 @@ static bool proper(const uint8_t *name, size_t len)
     return at > 0 && at + 1 == len;
 }
 
+bool name_sound(const uint8_t *name, size_t len) { return proper(name, len) && zeros(name + len, NAME_LIMIT - len); }
+
 bool fields_sound(const struct slot *s)
 {
-    return proper(s->name, s->len) && zeros(s->name + s->len, NAME_LIMIT - s->len) && s->flags <= 7 &&
+    return name_sound(s->name, s->len) && s->flags <= 7 &&
            (s->flags & HAS_A || zeros(s->a, sizeof s->a)) && (s->flags & HAS_AAAA || zeros(s->aaaa, sizeof s->aaaa)) &&
            (s->flags & HAS_DHCID ? proper_dhcid(s->dhcid) : zeros(s->dhcid, sizeof s->dhcid));
 }
@@ -68,7 +64,7 @@ int count_sound(const struct slot *slots, size_t table_len)
 
 /* Arguments */
 
-static bool read_name(struct name *out, const uint8_t *name, size_t len)
+static bool read_name(struct stored *out, const uint8_t *name, size_t len)
 {
     if (len > NAME_LIMIT)
         return false;
@@ -79,7 +75,6 @@ static bool read_name(struct name *out, const uint8_t *name, size_t len)
     return proper(out->bytes, len);
 }
 
-static size_t address_room(uint32_t family) { return family == 4 ? 4 : 16; }
 static uint8_t address_flag(uint32_t family) { return family == 4 ? HAS_A : HAS_AAAA; }
 static uint8_t *address_of(struct slot *s, uint32_t family) { return family == 4 ? s->a : s->aaaa; }
 
@@ -88,13 +83,13 @@ static uint64_t client_fault(const uint8_t *dhcid, size_t dhcid_len, uint32_t fa
 {
     if (dhcid_len != VICHRELKA_DHCID_LEN || !proper_dhcid(dhcid))
         return refuse(VICHRELKA_REFUSED_NOT_A_DHCID);
-    if (address_len != address_room(family))
+    if (address_len != address_size(family))
         return refuse(VICHRELKA_REFUSED_ADDRESS_LENGTH);
     return 0;
 }
 
 /* The slot of the name, or null */
-static struct slot *find(struct slot *slots, int count, const struct name *name)
+static struct slot *find(struct slot *slots, int count, const struct stored *name)
 {
     for (int i = 0; i < count; i++)
         if (holds(&slots[i], name->bytes, name->len))
@@ -104,9 +99,8 @@ static struct slot *find(struct slot *slots, int count, const struct name *name)
 
 /* Calls */
 
-/* What an add and a remove test behind their settings; with no fault, the number of names and the name in lower case come with it. */
-static uint64_t argument_fault(const struct slot *slots, size_t table_len, const uint8_t *name, size_t name_len, const uint8_t *dhcid, size_t dhcid_len,
-                               uint32_t family, size_t address_len, int *count, struct name *key)
+uint64_t argument_fault(const struct slot *slots, size_t table_len, const uint8_t *name, size_t name_len, const uint8_t *dhcid, size_t dhcid_len,
+                        uint32_t family, size_t address_len, int *count, struct stored *key)
 {
     *count = count_sound(slots, table_len);
     if (*count < 0)
@@ -118,29 +112,20 @@ static uint64_t argument_fault(const struct slot *slots, size_t table_len, const
 
 static void set_address(struct slot *s, uint32_t family, const uint8_t *address)
 {
-    memcpy(address_of(s, family), address, address_room(family));
+    memcpy(address_of(s, family), address, address_size(family));
     s->flags |= address_flag(family);
 }
 
-uint64_t table_add_plain(uint8_t *table, size_t table_len, const uint8_t *name, size_t name_len, const uint8_t *dhcid, size_t dhcid_len,
-                         uint32_t family, const uint8_t *address, size_t address_len, uint32_t policy)
+uint64_t add_tested(struct slot *slots, int count, const struct stored *key, const uint8_t *dhcid, uint32_t family, const uint8_t *address,
+                    uint32_t policy)
 {
-    struct slot *slots = (struct slot *)table;
-    struct name key;
-    int count;
-    if ((family != 4 && family != 6) || policy > 1)
-        return refuse(VICHRELKA_REFUSED_UNKNOWN_SETTING);
-    uint64_t fault = argument_fault(slots, table_len, name, name_len, dhcid, dhcid_len, family, address_len, &count, &key);
-    if (fault != 0)
-        return fault;
-
-    struct slot *s = find(slots, count, &key);
+    struct slot *s = find(slots, count, key);
     if (!s) {
         if (count == VICHRELKA_TABLE_NAMES)
             return refuse(VICHRELKA_REFUSED_TABLE_FULL);
         s = &slots[count];
-        s->len = (uint8_t)key.len;
-        memcpy(s->name, key.bytes, key.len);
+        s->len = (uint8_t)key->len;
+        memcpy(s->name, key->bytes, key->len);
         memcpy(s->dhcid, dhcid, sizeof s->dhcid);
         s->flags = HAS_DHCID;
         set_address(s, family, address);
@@ -162,6 +147,18 @@ uint64_t table_add_plain(uint8_t *table, size_t table_len, const uint8_t *name, 
     return accepted(2);
 }
 
+uint64_t table_add_plain(uint8_t *table, size_t table_len, const uint8_t *name, size_t name_len, const uint8_t *dhcid, size_t dhcid_len,
+                         uint32_t family, const uint8_t *address, size_t address_len, uint32_t policy)
+{
+    struct slot *slots = (struct slot *)table;
+    struct stored key;
+    int count;
+    if (!known_family(family) || policy > 1)
+        return refuse(VICHRELKA_REFUSED_UNKNOWN_SETTING);
+    uint64_t fault = argument_fault(slots, table_len, name, name_len, dhcid, dhcid_len, family, address_len, &count, &key);
+    return fault != 0 ? fault : add_tested(slots, count, &key, dhcid, family, address, policy);
+}
+
 /* A slot of so many that are used; later ones move up */
 static void take_out(struct slot *slots, int count, struct slot *s)
 {
@@ -170,39 +167,51 @@ static void take_out(struct slot *slots, int count, struct slot *s)
     memset(last, 0, sizeof *last);
 }
 
-uint64_t table_remove_plain(uint8_t *table, size_t table_len, const uint8_t *name, size_t name_len, const uint8_t *dhcid, size_t dhcid_len,
-                            uint32_t family, const uint8_t *address, size_t address_len)
+uint64_t remove_fault(struct slot *slots, int count, const struct stored *key, const uint8_t *dhcid, uint32_t family, const uint8_t *address,
+                      struct slot **held)
 {
-    struct slot *slots = (struct slot *)table;
-    struct name key;
-    int count;
-    if (family != 4 && family != 6)
-        return refuse(VICHRELKA_REFUSED_UNKNOWN_SETTING);
-    uint64_t fault = argument_fault(slots, table_len, name, name_len, dhcid, dhcid_len, family, address_len, &count, &key);
-    if (fault != 0)
-        return fault;
-
-    struct slot *s = find(slots, count, &key);
+    struct slot *s = find(slots, count, key);
     if (!s)
         return refuse(VICHRELKA_REFUSED_NAME_NOT_HELD);
     if (!(s->flags & HAS_DHCID))
         return refuse(VICHRELKA_REFUSED_KEPT_BY_HAND);
     if (memcmp(s->dhcid, dhcid, sizeof s->dhcid) != 0)
         return refuse(VICHRELKA_REFUSED_HELD_BY_ANOTHER);
-    if (!(s->flags & address_flag(family)) || memcmp(address_of(s, family), address, address_len) != 0)
+    if (!(s->flags & address_flag(family)) || memcmp(address_of(s, family), address, address_size(family)) != 0)
         return refuse(VICHRELKA_REFUSED_ADDRESS_DIFFERS);
-    memset(address_of(s, family), 0, address_len);
-    s->flags &= (uint8_t)~address_flag(family);
-    /* the DHCID goes with the last address, and so the name (RFC 4703, section 5.5) */
-    if (s->flags == HAS_DHCID)
-        take_out(slots, count, s);
+    *held = s;
     return 0;
+}
+
+void remove_from(struct slot *slots, int count, struct slot *held, uint32_t family)
+{
+    memset(address_of(held, family), 0, address_size(family));
+    held->flags &= (uint8_t)~address_flag(family);
+    /* the DHCID goes with the last address, and so the name (RFC 4703, section 5.5) */
+    if (held->flags == HAS_DHCID)
+        take_out(slots, count, held);
+}
+
+uint64_t table_remove_plain(uint8_t *table, size_t table_len, const uint8_t *name, size_t name_len, const uint8_t *dhcid, size_t dhcid_len,
+                            uint32_t family, const uint8_t *address, size_t address_len)
+{
+    struct slot *slots = (struct slot *)table, *held;
+    struct stored key;
+    int count;
+    if (!known_family(family))
+        return refuse(VICHRELKA_REFUSED_UNKNOWN_SETTING);
+    uint64_t fault = argument_fault(slots, table_len, name, name_len, dhcid, dhcid_len, family, address_len, &count, &key);
+    if (fault == 0)
+        fault = remove_fault(slots, count, &key, dhcid, family, address, &held);
+    if (fault == 0)
+        remove_from(slots, count, held, family);
+    return fault;
 }
 
 uint64_t table_clear_plain(uint8_t *table, size_t table_len, const uint8_t *name, size_t name_len)
 {
     struct slot *slots = (struct slot *)table;
-    struct name key;
+    struct stored key;
     int count = count_sound(slots, table_len);
     if (count < 0)
         return refuse(VICHRELKA_REFUSED_TABLE_NOT_SOUND);
@@ -219,7 +228,7 @@ uint64_t table_clear_plain(uint8_t *table, size_t table_len, const uint8_t *name
 uint64_t table_find_plain(const uint8_t *table, size_t table_len, const uint8_t *name, size_t name_len)
 {
     const struct slot *slots = (const struct slot *)table;
-    struct name key;
+    struct stored key;
     int count = count_sound(slots, table_len);
     if (count < 0)
         return refuse(VICHRELKA_REFUSED_TABLE_NOT_SOUND);

@@ -3,9 +3,9 @@
  * Vichrelka: which DHCP client holds which name.
  *
  * This is the part of a site gateway that reads DHCP requests, computes DHCIDs (RFC 4701), reads and writes the
- * listing of names, and keeps the table of names, with a book for the next restart. Every call is proved to meet a
- * written promise for every input, the refused ones included. The comment at each call has that promise in short,
- * docs/PROMISES.md has it in full.
+ * listing of names, and keeps the table of names, with a book for the next restart and the reverse names of the
+ * addresses. Every call is proved to meet a written promise for every input, the refused ones included. The comment
+ * at each call has that promise in short, docs/PROMISES.md has it in full.
  *
  * Every call answers one uint64_t: keep it in one. The low half is the number of a refusal, 0 if the call was
  * accepted. The high half is the call's value if it was accepted, and an offset into what was refused if it was
@@ -51,9 +51,9 @@ extern "C" {
 
 /* The version. From 0.2.0 on the second number goes up with whatever adds a call, or changes what a call takes,
    answers or leaves, a byte form or a size. The third goes up with any other change. */
-#define VICHRELKA_VERSION "0.5.0"
+#define VICHRELKA_VERSION "0.6.0"
 #define VICHRELKA_VERSION_MAJOR 0
-#define VICHRELKA_VERSION_MINOR 5
+#define VICHRELKA_VERSION_MINOR 6
 #define VICHRELKA_VERSION_PATCH 0
 
 /* At every call: warn where its answer is dropped. Empty for a compiler that has no word for that. */
@@ -99,6 +99,19 @@ extern "C" {
 #define VICHRELKA_BLOCK_LEN 512
 #define VICHRELKA_TIDIED_LIMIT (VICHRELKA_TABLE_NAMES * VICHRELKA_BLOCK_LEN)
 
+/* The addresses that a reverse side has room for, the bytes of an address's slot, and the bytes of a reverse side. */
+#define VICHRELKA_REVERSE_NAMES 128
+#define VICHRELKA_REVERSE_SLOT_LEN 273
+#define VICHRELKA_REVERSE_LEN (VICHRELKA_REVERSE_NAMES * VICHRELKA_REVERSE_SLOT_LEN)
+
+/* Where the fields of its slot begin; the first byte is the family. See "The reverse side". */
+#define VICHRELKA_REVERSE_ADDRESS 1
+#define VICHRELKA_REVERSE_NAME_LEN 17
+#define VICHRELKA_REVERSE_NAME 18
+
+/* The most bytes that a PTR name has. */
+#define VICHRELKA_PTR_LIMIT 74
+
 /* The numbers of the refusals. A level of a DHCPv6 message is a relay's message, or the client's message, which is
    inside them all. An entry of a listing is a line, or several lines that parentheses hold together. */
 enum vichrelka_refused {
@@ -123,8 +136,8 @@ enum vichrelka_refused {
        have 3 to 130 bytes */
     VICHRELKA_REFUSED_NO_IDENTIFIER = 8,
     /* no name can be used: the site's is not proper, and the client's is not proper either or is not asked for; in
-       add, remove, clear, find, the two calls on names in text and the block of a name: the name that was given is
-       not proper */
+       add, remove, clear, find, the two calls on names in text, the block of a name, a lease and its end: the name
+       that was given is not proper */
     VICHRELKA_REFUSED_NO_PROPER_NAME = 9,
     /* DHCPv6: there is a ninth relay; no more than eight may be around the client's message */
     VICHRELKA_REFUSED_TOO_MANY_RELAYS = 11,
@@ -163,7 +176,8 @@ enum vichrelka_refused {
     /* a listing that is loaded has two records of one type for one name, whether they are the same or not */
     VICHRELKA_REFUSED_RECORD_REPEATED = 35,
     /* the table is not VICHRELKA_TABLE_LEN bytes, or they are not those of a table (all zeros are): see "The table
-       of names"; or a book has more than VICHRELKA_TABLE_NAMES names after some block */
+       of names"; or a book has more than VICHRELKA_TABLE_NAMES names after some block; or, in a lease and its end, the
+       reverse side is not VICHRELKA_REVERSE_LEN bytes, or they are not those of one (all zeros are) */
     VICHRELKA_REFUSED_TABLE_NOT_SOUND = 40,
     /* the last 32 bytes of a block are not the SHA-256 of its first 480: see "The book of names" */
     VICHRELKA_REFUSED_WRONG_CHECK = 42,
@@ -171,7 +185,10 @@ enum vichrelka_refused {
        that is not one, a byte that should be zero, or says of a name that it is gone which is not there */
     VICHRELKA_REFUSED_WRONG_FIELD = 43,
     /* the length of a book is not a multiple of VICHRELKA_BLOCK_LEN */
-    VICHRELKA_REFUSED_BLOCK_LENGTH = 44
+    VICHRELKA_REFUSED_BLOCK_LENGTH = 44,
+    /* the reverse side has VICHRELKA_REVERSE_NAMES addresses, and that of this lease is not among them: see "The
+       reverse side" for how to make room */
+    VICHRELKA_REFUSED_REVERSE_FULL = 46
 };
 
 /* The family of a DHCP message, and that of an address. */
@@ -251,10 +268,11 @@ static inline const char *vichrelka_refusal_text(uint32_t number)
     case VICHRELKA_REFUSED_NAME_NOT_HELD: return "the name is not in the table";
     case VICHRELKA_REFUSED_ADDRESS_DIFFERS: return "the name does not have this address";
     case VICHRELKA_REFUSED_RECORD_REPEATED: return "the listing has two records of one type for a name";
-    case VICHRELKA_REFUSED_TABLE_NOT_SOUND: return "the bytes are not a sound table, or the book has too many names";
+    case VICHRELKA_REFUSED_TABLE_NOT_SOUND: return "a table or reverse side is not sound, or a book has too many names";
     case VICHRELKA_REFUSED_WRONG_CHECK: return "a block's check is wrong";
     case VICHRELKA_REFUSED_WRONG_FIELD: return "a block's number or one of its fields is wrong";
     case VICHRELKA_REFUSED_BLOCK_LENGTH: return "the bytes are not whole blocks";
+    case VICHRELKA_REFUSED_REVERSE_FULL: return "the reverse side has no room for another address";
     default: return "unknown refusal";
     }
 }
@@ -586,6 +604,94 @@ uint64_t vichrelka_book_tidy(const uint8_t *book, size_t book_len, uint8_t *out,
  */
 VICHRELKA_NODISCARD
 uint64_t vichrelka_book_sound(const uint8_t *book, size_t book_len);
+
+/*
+ * Write the PTR name of an address, in wire form and lower case, at the beginning of out: the name under which a name
+ * server looks up who has the address. Its value is the number of bytes written, 22 to 30 for family 4 and 74 for
+ * family 6; the bytes of out behind them stay as they are. VICHRELKA_PTR_LIMIT bytes of out are always enough.
+ *
+ *     192.0.2.31         31.2.0.192.in-addr.arpa.       the bytes from the last to the first, in decimal
+ *     2001:db8::7        7.0.0.0.0.0.0.0.0.0.0.0.0.0.0.0.0.0.0.0.0.0.0.0.8.b.d.0.1.0.0.2.ip6.arpa.
+ *                                                       the half bytes from the last to the first, a digit each
+ *
+ * vichrelka_name_to_text writes it in text.
+ *
+ * Refusals, in order, with place 0: 12 (family), 16; 13 for fewer bytes of out than the name has. If it is refused,
+ * nothing is written.
+ */
+VICHRELKA_NODISCARD
+uint64_t vichrelka_ptr_name(uint32_t family, const uint8_t *address, size_t address_len, uint8_t *out, size_t out_len);
+
+/*
+ * The reverse side: for each address one name behind it, up to VICHRELKA_REVERSE_NAMES addresses in the order in which
+ * they came. It is VICHRELKA_REVERSE_LEN bytes of yours, beside the table. All zeros is the empty one. The bytes may be
+ * stored, copied and compared as they are. A lease and its end test that they are sound, and leave them so:
+ *
+ *     a slot       the family (1 byte), the address (16), the name's wire length (1), the name (255)
+ *     the family   4 or 6
+ *     the address  that of family 4 in the first 4 bytes; no address of a family is there twice
+ *     the name     a proper one in wire form, in lower case; it may be behind several addresses
+ *     zeros        whatever is not used: 12 bytes behind an address of family 4, those behind the name, slots behind
+ *                  the last address
+ *
+ * All zeros are sound here too: a store that was lost and comes back as zeros is an empty reverse side.
+ *
+ * A lease writes the table first and then the reverse side; its end writes the reverse side first and then the table.
+ * So neither of their steps puts a name behind an address that the name does not have. What they leave as it was: the
+ * reverse name of a client's former address, when it gets another one, and those of a former client in a takeover. The
+ * table's own calls, a load and a replay do not know the reverse side and leave it as it is.
+ *
+ * After a power cut. A call works on your memory, and what was only there is gone. What outlasts a cut is what you
+ * stored, so store in the same order: for a lease the table's change first and then the reverse side, for its end the
+ * reverse side first and then the table's change, each whole (the table's change as a block of the book; the reverse
+ * side under another name, then renamed). A cut then leaves the state before the call, that between the two steps, or
+ * that after it. Run the same call again on what you read back, before any other call on these two sides, and it ends
+ * in the state of an uncut run, both sides, however often it is cut:
+ *
+ *     a lease      The client asks again, since you tell it only when both are stored. Keep its request if other calls
+ *                  may come first. The second run answers 1 where an uncut one answers 0 or 2, once a step was stored.
+ *     its end      Nobody asks again: keep it until both are stored, and run it after a restart. The second run answers
+ *                  0; or 33 or 34 if both had been stored. Take these as done then.
+ *
+ * Do not lend memory that keeps its bytes without power: a call may be cut in the middle of a slot there.
+ * docs/POWER.md goes through all the cuts.
+ *
+ * If a lease is refused with 46, too many reverse names of former addresses, of takeovers and of cleared names are
+ * there. Make room: take a new reverse side (zeros), and for each address in the table run the lease of its name again,
+ * with copies of the name, the DHCID and the address that are in the slot. Each answers 1 and leaves the table as it
+ * is. (A name that is kept by hand has no lease; its address has no reverse name here.)
+ */
+
+/*
+ * A lease: give the name to the client with this DHCID, with this address, as vichrelka_table_add does, and then put
+ * the name behind the address. Its value is that of the add: 0, 1 or 2. If the address is in the reverse side, this
+ * name, in lower case, takes the place of the one behind it; if not, it is now the last. Every other slot stays. Copy
+ * a name, a DHCID or an address out of table or reverse side before you give it to this call: both are written.
+ *
+ * Refusals, in order, with place 0: 12 (family, policy); 40 (the table, or the reverse side); 9, 15, 16; 46; then 32,
+ * 31, or 30 under VICHRELKA_FIRST_WINS. If it is refused, both sides are as they were.
+ */
+VICHRELKA_NODISCARD
+uint64_t vichrelka_lease(uint8_t *table, size_t table_len, uint8_t *reverse, size_t reverse_len,
+                         const uint8_t *name, size_t name_len,
+                         const uint8_t *dhcid, size_t dhcid_len, uint32_t family,
+                         const uint8_t *address, size_t address_len, uint32_t policy);
+
+/*
+ * An ended lease: take the name from behind the address, if it is this one, and then delete the address as
+ * vichrelka_table_remove does. Its value is 0. If another name is behind the address, or none, the reverse side stays
+ * as it is. If a reverse name goes, later ones move up by a slot, and the slot behind the last becomes zeros.
+ *
+ * Refusals, in order, with place 0: 12 (family); 40 (the table, or the reverse side); 9, 15, 16; then the remove's 33,
+ * 31, 30, 34. If it is refused, both sides are as they were. After a power cut 33 and 34 may mean that it was done: see
+ * above. Copy a name, a DHCID or an address out of table or reverse side before you give it to this call: both are
+ * written.
+ */
+VICHRELKA_NODISCARD
+uint64_t vichrelka_lease_end(uint8_t *table, size_t table_len, uint8_t *reverse, size_t reverse_len,
+                             const uint8_t *name, size_t name_len,
+                             const uint8_t *dhcid, size_t dhcid_len, uint32_t family,
+                             const uint8_t *address, size_t address_len);
 
 #ifdef __cplusplus
 }

@@ -4,6 +4,7 @@ pub mod ListingLaws
 pub mod TableLaws
 pub mod TextLaws
 pub mod BookLaws
+pub mod LeaseLaws
 pub mod TellLaws
 pub mod DhcidLaws
 pub mod ChangeLaws

@@ -25,7 +25,7 @@ use Rattle.table.proofs.DemandLaws.{is-address}
 use Rattle.records.specs.Written.{listingOf}
 use Rattle.records.specs.Calls.{Writes}
 use Rattle.slots.specs.Sizes.{mostNames}
-use Rattle.demands.specs.Faults.{Of, Stands, ByHand, HeldBy, addTests, removeTests, clearTests, findTests, countTests, writeTests}
+use Rattle.demands.specs.Faults.{Of, Stands, ByHand, HeldBy, addStepTests, addTests, removeStepTests, removeTests, clearTests, findTests, countTests, writeTests}
 use Rattle.demands.proofs.AnswerLaws.{InRow, after}
 
 -- ---- what stands under a name
@@ -82,10 +82,7 @@ module _ (b name dhcid : List ℕ) (family : ℕ) (address : List ℕ) where
     abbrev Other : List TableEntry → Type 0
     Other t = (d : List ℕ) → HeldBy d n t → policy ≡ 0 → d ≡ dhcid
 
-    abbrev steps : List Test
-    steps = record { number = 32; holds = Of b Room } ∷ record { number = 31; holds = Of b Hand } ∷ record { number = 30; holds = Of b Other } ∷ []
-
-    stepped : (s : Sound mostNames b) {o : StepOutcome (List ℕ)} → a ≡ o .answer → Adding eqBytes (s .table) n dhcid (familyOf family) address mostNames policy o → InRow a steps
+    pub stepped : (s : Sound mostNames b) {o : StepOutcome (List ℕ)} → a ≡ o .answer → Adding eqBytes (s .table) n dhcid (familyOf family) address mostNames policy o → InRow a (addStepTests b name dhcid policy)
     unfolding ByHand HeldBy
     stepped s e (Adding.put-last found room o) =
         InRow.passed 0 (answered e o) (
@@ -119,9 +116,9 @@ module _ (b name dhcid : List ℕ) (family : ℕ) (address : List ℕ) where
 
     pub add-in-row : Adds mostNames b name dhcid family address policy a left → InRow a (addTests b name dhcid family address policy)
     unfolding Adds
-    add-in-row (inl f) = InRow.failed (f .number) (f .answer) (fault-before (argumentTests mostNames (KnownFamily family × KnownPolicy policy) b name dhcid family address) steps (f .number) (f .fault))
+    add-in-row (inl f) = InRow.failed (f .number) (f .answer) (fault-before (argumentTests mostNames (KnownFamily family × KnownPolicy policy) b name dhcid family address) (addStepTests b name dhcid policy) (f .number) (f .fault))
     add-in-row (inr s) =
-        after (argumentTests mostNames (KnownFamily family × KnownPolicy policy) b name dhcid family address) steps (s .all-hold)
+        after (argumentTests mostNames (KnownFamily family × KnownPolicy policy) b name dhcid family address) (addStepTests b name dhcid policy) (s .all-hold)
         (stepped (s .sound) (s .answer) (add-case eqBytes (s .sound .table) n dhcid (familyOf family) address mostNames policy))
 
   module _ (a : Answer) (left : List ℕ) where
@@ -129,14 +126,9 @@ module _ (b name dhcid : List ℕ) (family : ℕ) (address : List ℕ) where
     abbrev Same : List TableEntry → Type 0
     Same t = (e : TableEntry) → find n t ≡ some e → addressOf (familyOf family) e ≡ some address
 
-    abbrev removals : List Test
-    removals =
-        record { number = 33; holds = Of b (Stands n) } ∷ record { number = 31; holds = Of b Hand } ∷ record { number = 30; holds = Of b (HeldBy dhcid n) }
-        ∷ record { number = 34; holds = Of b Same } ∷ []
-
     -- where the client holds the name with that address, none of them is given
     all-removed : (s : Sound mostNames b) (c : TableEntry) (k : List ℕ) → find n (s .table) ≡ some c → c .holder ≡ some k → eqBytes k dhcid ≡ true
-        → isAddress (addressOf (familyOf family) c) address ≡ true → AllHold removals
+        → isAddress (addressOf (familyOf family) c) address ≡ true → AllHold (removeStepTests b name dhcid family address)
     unfolding Stands ByHand HeldBy
     all-removed s c k found holder same there = (
       holds b s (Stands n) (c, found),
@@ -149,7 +141,7 @@ module _ (b name dhcid : List ℕ) (family : ℕ) (address : List ℕ) where
       ),
     )
 
-    removed : (s : Sound mostNames b) {o : StepOutcome (List ℕ)} → a ≡ o .answer → Removing eqBytes (s .table) n dhcid (familyOf family) address o → InRow a removals
+    pub removed : (s : Sound mostNames b) {o : StepOutcome (List ℕ)} → a ≡ o .answer → Removing eqBytes (s .table) n dhcid (familyOf family) address o → InRow a (removeStepTests b name dhcid family address)
     unfolding Stands ByHand HeldBy
     removed s e (Removing.not-held found o) = InRow.failed 33 (answered e o) (inl (fails b s (Stands n) (λ h. none-stands n (s .table) found (h .1)), refl))
     removed s e (Removing.by-hand c found holder o) =
@@ -172,9 +164,9 @@ module _ (b name dhcid : List ℕ) (family : ℕ) (address : List ℕ) where
 
     pub remove-in-row : Removes mostNames b name dhcid family address a left → InRow a (removeTests b name dhcid family address)
     unfolding Removes
-    remove-in-row (inl f) = InRow.failed (f .number) (f .answer) (fault-before (argumentTests mostNames (KnownFamily family) b name dhcid family address) removals (f .number) (f .fault))
+    remove-in-row (inl f) = InRow.failed (f .number) (f .answer) (fault-before (argumentTests mostNames (KnownFamily family) b name dhcid family address) (removeStepTests b name dhcid family address) (f .number) (f .fault))
     remove-in-row (inr s) =
-        after (argumentTests mostNames (KnownFamily family) b name dhcid family address) removals (s .all-hold)
+        after (argumentTests mostNames (KnownFamily family) b name dhcid family address) (removeStepTests b name dhcid family address) (s .all-hold)
         (removed (s .sound) (s .answer) (remove-case eqBytes (s .sound .table) n dhcid (familyOf family) address))
 
 -- 33 of a clear and of a find

@@ -10,6 +10,9 @@ use Rattle.table.proofs.Theorems.{refused-add, refused-remove, refused-clear}
 use Rattle.records.proofs.Theorems.{refused-write, refused-load}
 use Rattle.slots.specs.Sizes.{mostNames}
 use Rattle.book.proofs.Theorems.{refused-block, refused-replay, refused-tidy}
+use Rattle.ptr.proofs.Theorems.{refused-ptr}
+use Rattle.reverse.specs.Sizes.{mostAddresses}
+use Rattle.leases.proofs.Theorems.{refused-lease, refused-end}
 use Rattle.demands.specs.Demand1.{Demand1, Unchanged}
 use Rattle.demands.specs.Demand2.{Demand2}
 use Rattle.demands.specs.Demand3.{Demand3}
@@ -21,6 +24,7 @@ use Rattle.demands.proofs.ListingLaws.{listing-refuses, row-refuses, st
 use Rattle.demands.proofs.TableLaws.{add-in-row, remove-in-row, clear-in-row, find-in-row, count-in-row, write-in-row}
 use Rattle.demands.proofs.TextLaws.{from-text-in-row, to-text-in-row}
 use Rattle.demands.proofs.BookLaws.{block-in-row, replay-in-row, tidy-in-row, sound-in-row}
+use Rattle.demands.proofs.LeaseLaws.{ptr-in-row, lease-in-row, end-in-row}
 
 pub demand-1 : Demand1
 unfolding Unchanged
@@ -47,6 +51,13 @@ demand-1 =
       replay = λ book area a left h. (by-order _ (replay-in-row book area a left h), refused-replay mostNames book area a left h);
       tidy = λ book out a left h. (by-order _ (tidy-in-row book out a left h), refused-tidy mostNames book out a left h);
       sound = λ book a h. by-order [] (sound-in-row book a h);
+      ptr = λ family x out a left h. (by-order _ (ptr-in-row family x out a left h), refused-ptr family x out a left h);
+      lease = λ b c name dhcid family address policy a b′ c′ h.
+          let stays = refused-lease mostNames mostAddresses b c name dhcid family address policy a b′ c′ h in
+          (by-order _ (lease-in-row b c name dhcid family address policy a b′ c′ h), (λ n at e. stays n at e .0), (λ n at e. stays n at e .1));
+      end = λ b c name dhcid family address a b′ c′ h.
+          let stays = refused-end mostNames mostAddresses b c name dhcid family address a b′ c′ h in
+          (by-order _ (end-in-row b c name dhcid family address a b′ c′ h), (λ n at e. stays n at e .0), (λ n at e. stays n at e .1));
     }
 
 pub demand-2 : Demand2

@@ -27,7 +27,9 @@ use Rattle.name_text.specs.Calls.{ReadsText, WritesText}
 use Rattle.table.specs.Calls.{Adds, Removes, Clears, Finds, Counts}
 use Rattle.records.specs.Calls.{Writes, Loads}
 use Rattle.book.specs.Calls.{BlockWritten, Replays, Tidies, CountsSound}
-use Rattle.demands.specs.Faults.{InOrder, NameFault, DhcidFault, ListingFault, RowFault, StepFault, LoadFault, fromTextTests, toTextTests, addTests, removeTests, clearTests, findTests, countTests, writeTests, blockTests, replayTests, tidyTests}
+use Rattle.ptr.specs.Ptr.{ptrTests, PtrWritten}
+use Rattle.leases.specs.Calls.{Leases, Ends}
+use Rattle.demands.specs.Faults.{InOrder, NameFault, DhcidFault, ListingFault, RowFault, StepFault, LoadFault, fromTextTests, toTextTests, addTests, removeTests, clearTests, findTests, countTests, writeTests, blockTests, replayTests, tidyTests, leaseTests, endTests}
 
 -- "bad input gets the refusal number that document 01 fixes" (docs/RULES.md, 2.2 and 8): the call answered a, which is a refusal exactly if its input
 -- is bad, with that number at that offset
@@ -67,3 +69,8 @@ pub record Demand1 : Type 0 where
   pub tidy : (book out : List ℕ) (a : Answer) (left : List ℕ) → Tidies 64 book out a left → Refuses (InOrder (tidyTests book out)) a × Unchanged out left a
   -- to this call no input is bad
   pub sound : (book : List ℕ) (a : Answer) → CountsSound 64 book a → Refuses (InOrder []) a
+  pub ptr : (family : ℕ) (x out : List ℕ) (a : Answer) (left : List ℕ) → PtrWritten family x out a left → Refuses (InOrder (ptrTests family x out)) a × Unchanged out left a
+  pub lease : (b c name dhcid : List ℕ) (family : ℕ) (address : List ℕ) (policy : ℕ) (a : Answer) (b′ c′ : List ℕ) → Leases 64 128 b c name dhcid family address policy a b′ c′
+      → Refuses (InOrder (leaseTests b c name dhcid family address policy)) a × Unchanged b b′ a × Unchanged c c′ a
+  pub end : (b c name dhcid : List ℕ) (family : ℕ) (address : List ℕ) (a : Answer) (b′ c′ : List ℕ) → Ends 64 128 b c name dhcid family address a b′ c′
+      → Refuses (InOrder (endTests b c name dhcid family address)) a × Unchanged b b′ a × Unchanged c c′ a

@@ -3,6 +3,7 @@
 -- inside a listing are those of the definitions that are named. The offset, document 01's place (docs/RULES.md, 1.3), is 0 but for a listing's faulty
 -- entry.
 use Prim.Native.Nat.{ℕ, _+_, _*_, _≤_, _<_}
+use mathlib.Core.Bool.{true}
 use mathlib.Core.Path.{_≡_}
 use mathlib.Core.Logic.{_⊎_}
 use mathlib.Core.List.{List, [], _∷_, _++_}
@@ -10,7 +11,7 @@ use mathlib.Core.Option.{none, some}
 use lib.ListN.{length}
 use Rattle.base.specs.Family.{KnownFamily}
 use Rattle.base.specs.Order.{Test, FirstFault}
-use Rattle.base.specs.Refusal.{noProperName, outputShort, hashInputLong, heldByAnother, keptByHand, tableFull, nameNotHeld, addressDiffers, tableNotSound, wrongCheck, wrongField, blockLength}
+use Rattle.base.specs.Refusal.{noProperName, outputShort, hashInputLong, heldByAnother, keptByHand, tableFull, nameNotHeld, addressDiffers, tableNotSound, wrongCheck, wrongField, blockLength, reverseFull}
 use Rattle.name.specs.Name.{Proper, SpellsName, canonical}
 use Rattle.message.specs.Request.{identifierBytes}
 use Rattle.message.specs.declared.Request.{Request}
@@ -23,6 +24,9 @@ use Rattle.slots.specs.Entry.{familyOf, addressOf}
 use Rattle.slots.specs.Form.{TableEntry, Sound}
 use Rattle.table.specs.Steps.{find}
 use Rattle.table.specs.Calls.{KnownPolicy, nameTests, argumentTests}
+use Rattle.reverse.specs.Entry.{ReverseEntry, standsAt}
+use Rattle.reverse.specs.Form.{SoundReverse}
+use Rattle.leases.specs.Calls as leases
 use Rattle.records.specs.Written.{listingOf}
 use Rattle.records.specs.Calls.{loadTests}
 use Rattle.book.specs.Notes.{Note, after}
@@ -100,21 +104,26 @@ unfoldable pub HeldBy : List ℕ → List ℕ → List TableEntry → Type 0
 HeldBy d n t = (e : TableEntry) × (find n t ≡ some e) × (e .holder ≡ some d)
 
 -- Add: 12, 40, 9, 15, 16; then 32 for an unused name, 31, and 30 where the first wins
-abbrev pub addTests : List ℕ → List ℕ → List ℕ → ℕ → List ℕ → ℕ → List Test
-addTests b name dhcid family address policy =
-    argumentTests 64 (KnownFamily family × KnownPolicy policy) b name dhcid family address
-    ++ record { number = tableFull; holds = Of b (λ t. find (canonical name) t ≡ none → length t < 64) }
+abbrev pub addStepTests : List ℕ → List ℕ → List ℕ → ℕ → List Test
+addStepTests b name dhcid policy =
+    record { number = tableFull; holds = Of b (λ t. find (canonical name) t ≡ none → length t < 64) }
     ∷ record { number = keptByHand; holds = Of b (λ t. ByHand (canonical name) t → ⊥) }
     ∷ record { number = heldByAnother; holds = Of b (λ t. (d : List ℕ) → HeldBy d (canonical name) t → policy ≡ 0 → d ≡ dhcid) } ∷ []
 
+abbrev pub addTests : List ℕ → List ℕ → List ℕ → ℕ → List ℕ → ℕ → List Test
+addTests b name dhcid family address policy =
+    argumentTests 64 (KnownFamily family × KnownPolicy policy) b name dhcid family address ++ addStepTests b name dhcid policy
+
 -- Remove: 12, 40, 9, 15, 16, 33, 31, 30, 34
-abbrev pub removeTests : List ℕ → List ℕ → List ℕ → ℕ → List ℕ → List Test
-removeTests b name dhcid family address =
-    argumentTests 64 (KnownFamily family) b name dhcid family address
-    ++ record { number = nameNotHeld; holds = Of b (Stands (canonical name)) }
+abbrev pub removeStepTests : List ℕ → List ℕ → List ℕ → ℕ → List ℕ → List Test
+removeStepTests b name dhcid family address =
+    record { number = nameNotHeld; holds = Of b (Stands (canonical name)) }
     ∷ record { number = keptByHand; holds = Of b (λ t. ByHand (canonical name) t → ⊥) }
     ∷ record { number = heldByAnother; holds = Of b (HeldBy dhcid (canonical name)) }
     ∷ record { number = addressDiffers; holds = Of b (λ t. (e : TableEntry) → find (canonical name) t ≡ some e → addressOf (familyOf family) e ≡ some address) } ∷ []
+
+abbrev pub removeTests : List ℕ → List ℕ → List ℕ → ℕ → List ℕ → List Test
+removeTests b name dhcid family address = argumentTests 64 (KnownFamily family) b name dhcid family address ++ removeStepTests b name dhcid family address
 
 -- Clear: 40, 9, 33
 abbrev pub clearTests : List ℕ → List ℕ → List Test
@@ -143,8 +152,8 @@ LoadFault t area n offset = ListingFault t n offset ⊎ ((rs : List ResourceReco
 abbrev pub blockTests : List ℕ → List ℕ → List ℕ → List Test
 blockTests b name out = nameTests 64 b name ++ record { number = outputShort; holds = 512 ≤ length out } ∷ []
 
--- a whole book: 44; 42 and 43 for the first bad block (book, specs/Books.antt), whatever stands before or behind it; 40 where after some block more than 64 names stand. A book that is not
--- right says nothing, so that the test for 40 holds of it; but then a test before it fails
+-- a whole book: 44; 42 and 43 for the first bad block (book, specs/Books.antt), whatever stands before or behind it; 40 where after some block more than 64 names
+-- stand. A book that is not right says nothing, so that the test for 40 holds of it; but then a test before it fails
 abbrev pub bookTests : List ℕ → List Test
 bookTests book =
     record { number = blockLength; holds = (k : ℕ) × (length book ≡ 512 * k) }
@@ -165,3 +174,21 @@ outTests book out = record { number = outputShort; holds = (cs : List Note) → 
 
 abbrev pub tidyTests : List ℕ → List ℕ → List Test
 tidyTests book out = bookTests book ++ outTests book out
+
+-- ---- reverse names and leases, of 64 names and 128 addresses (document 02, K7; docs/RULES.md, 12)
+
+-- P holds of the entries that the bytes c are; of bytes that are no sound reverse side whatever it says, as with `Of`
+abbrev pub OfReverse : List ℕ → (List ReverseEntry → Type 0) → Type 0
+OfReverse c P = (u : SoundReverse 128 c) → P (u .names)
+
+-- a lease: 12, 40 for the table or the reverse side, 9, 15, 16; 46 for a full reverse side without the address; then add's
+abbrev pub placeTests : List ℕ → ℕ → List ℕ → List Test
+placeTests c family address = record { number = reverseFull; holds = OfReverse c (λ rs. length rs ≡ 128 → standsAt (familyOf family) address rs ≡ true) } ∷ []
+
+abbrev pub leaseTests : List ℕ → List ℕ → List ℕ → List ℕ → ℕ → List ℕ → ℕ → List Test
+leaseTests b c name dhcid family address policy =
+    leases.leaseTests 64 128 b c name dhcid family address policy ++ (placeTests c family address ++ addStepTests b name dhcid policy)
+
+-- an ended lease: 12, 40, 9, 15, 16, then remove's
+abbrev pub endTests : List ℕ → List ℕ → List ℕ → List ℕ → ℕ → List ℕ → List Test
+endTests b c name dhcid family address = leases.endTests 64 128 b c name dhcid family address ++ removeStepTests b name dhcid family address

@@ -12,12 +12,17 @@ use Rattle.dhcid.specs.declared.Chosen.{Chosen}
 use Rattle.listing.specs.Reading.{Checks}
 use Rattle.listing.specs.Giving.{StepIs}
 use Rattle.listing.specs.declared.Step.{Step}
+use Rattle.name.specs.Name.{canonical}
 use Rattle.name_text.specs.Calls.{ReadsText, WritesText}
+use Rattle.slots.specs.Form.{Sound}
 use Rattle.table.specs.Calls.{Adds, Removes, Clears, Finds, Counts}
 use Rattle.table.specs.Demand2.{SoundAdd, SoundRemove, SoundClear}
 use Rattle.records.specs.Calls.{Writes, Loads}
 use Rattle.book.specs.Calls.{BlockWritten, Replays, Tidies, CountsSound}
-use Rattle.demands.specs.Faults.{InOrder, Of, NameFault, DhcidFault, ListingFault, StepFault, LoadFault, fromTextTests, toTextTests, addTests, removeTests, clearTests, findTests, countTests, writeTests, blockTests, replayTests, tidyTests}
+use Rattle.ptr.specs.Ptr.{ptrTests, PtrWritten}
+use Rattle.leases.specs.Calls.{Leases, Ends}
+use Rattle.leases.specs.Cuts.{LeaseCut, SecondLease, EndCut, SecondEnd}
+use Rattle.demands.specs.Faults.{InOrder, Of, NameFault, DhcidFault, ListingFault, StepFault, LoadFault, fromTextTests, toTextTests, addTests, removeTests, clearTests, findTests, countTests, writeTests, blockTests, replayTests, tidyTests, leaseTests, endTests}
 use Rattle.demands.specs.Demand1.{Refuses, RefusesStep, Unchanged}
 use Rattle.demands.specs.Demand2.{IsRfc4701, SameTable, AddsClient, RemovesAddress, ClearsName}
 
@@ -90,6 +95,17 @@ TidyTold book out a left = Tidies 64 book out a left × Refuses (InOrder (tidyTe
 abbrev pub SoundTold : List ℕ → Answer → Type 0
 SoundTold book a = CountsSound 64 book a × Refuses (InOrder []) a
 
+abbrev pub PtrTold : ℕ → List ℕ → List ℕ → Answer → List ℕ → Type 0
+PtrTold family x out a left = PtrWritten family x out a left × Refuses (InOrder (ptrTests family x out)) a × Unchanged out left a
+
+abbrev pub LeaseTold : List ℕ → List ℕ → List ℕ → List ℕ → ℕ → List ℕ → ℕ → Answer → List ℕ → List ℕ → Type 0
+LeaseTold b c name dhcid family address policy a b′ c′ =
+    Leases 64 128 b c name dhcid family address policy a b′ c′ × Refuses (InOrder (leaseTests b c name dhcid family address policy)) a × Unchanged b b′ a × Unchanged c c′ a
+
+abbrev pub EndTold : List ℕ → List ℕ → List ℕ → List ℕ → ℕ → List ℕ → Answer → List ℕ → List ℕ → Type 0
+EndTold b c name dhcid family address a b′ c′ =
+    Ends 64 128 b c name dhcid family address a b′ c′ × Refuses (InOrder (endTests b c name dhcid family address)) a × Unchanged b b′ a × Unchanged c c′ a
+
 -- the table with the bytes b was written into an output that held `out` and now holds `left`. A refusal of the write is the answer r, and the area is as it was; else as many bytes of the output as
 -- the write's value were loaded into an area that held `area` and now holds `after`, and r was answered to that
 pub data Carried (b out left area : List ℕ) (r : ℕ) (after : List ℕ) : Type 0 where
@@ -99,3 +115,31 @@ pub data Carried (b out left area : List ℕ) (r : ℕ) (after : List ℕ) : Typ
 -- and where the write was accepted, and the area has room for a table, it is the same table
 abbrev pub CarriedSame : List ℕ → List ℕ → List ℕ → List ℕ → ℕ → List ℕ → Type 0
 CarriedSame b out left area r after = (w : Answer) → Writes 64 b out w left → IsAccepted w → 19968 ≤ length area → ToldC r (λ a. SameTable b area a after)
+
+-- ---- a lease and its end on sides that are stored, cut once k of the two are stored, and then the same again (document 02, K7; docs/RULES.md, 12.5)
+
+-- an uncut run on the stored bytes h and g answers a₀ and leaves b₀ and c₀; the run that was cut left h′ and g′ stored
+pub record LeaseCutOff (h g name dhcid : List ℕ) (family : ℕ) (address : List ℕ) (policy k : ℕ) (h′ g′ : List ℕ) : Type 0 where
+  pub answer : Answer
+  pub table : List ℕ
+  pub reverse : List ℕ
+  pub uncut : Leases 64 128 h g name dhcid family address policy answer table reverse
+  pub cut : LeaseCut 64 128 name dhcid family address policy k h g h′ g′
+
+pub record EndCutOff (h g name dhcid : List ℕ) (family : ℕ) (address : List ℕ) (k : ℕ) (h′ g′ : List ℕ) : Type 0 where
+  pub answer : Answer
+  pub table : List ℕ
+  pub reverse : List ℕ
+  pub uncut : Ends 64 128 h g name dhcid family address answer table reverse
+  pub cut : EndCut 64 128 name dhcid family address k h g h′ g′
+
+-- after the second run the stored bytes are those of one uncut run, and r tells C the second answer
+pub record LeaseMended (h g name dhcid : List ℕ) (family : ℕ) (address : List ℕ) (policy k r : ℕ) (h′ g′ : List ℕ) : Type 0 where
+  pub answer : Answer
+  pub uncut : Leases 64 128 h g name dhcid family address policy answer h′ g′
+  pub second : Tells r (SecondLease k answer)
+
+pub record EndMended (h g name dhcid : List ℕ) (family : ℕ) (address : List ℕ) (k r : ℕ) (h′ g′ : List ℕ) : Type 0 where
+  pub answer : Answer
+  pub uncut : Ends 64 128 h g name dhcid family address answer h′ g′
+  pub second : Tells r (λ a. (s : Sound 64 h′) → SecondEnd (canonical name) (s .table) k answer a)

@@ -1,16 +1,21 @@
 // The calls for C once more, each with the customer's demands as its promise beside its own. So the demands are proved of the code, and not of definitions that might
 // have drifted from it: each function calls the one that ships, with whatever it is given. None of this is in the archive. The row call is called with a row of four
-// places, since the borrow checker does not cover a lent row of any length; of every row `demand-3` is about the row call's promise.
+// places, since the borrow checker does not cover a lent row of any length; of every row `demand-3` is about the row call's promise. The last functions prove the power
+// cut of code: a run on stored sides that is cut, and the same again.
+use base::slice::put;
 use entry::Record;
 use gateway::vichrelka_book_block;
 use gateway::vichrelka_book_replay;
 use gateway::vichrelka_book_sound;
 use gateway::vichrelka_book_tidy;
 use gateway::vichrelka_dhcid;
+use gateway::vichrelka_lease;
+use gateway::vichrelka_lease_end;
 use gateway::vichrelka_listing_check;
 use gateway::vichrelka_name;
 use gateway::vichrelka_name_from_text;
 use gateway::vichrelka_name_to_text;
+use gateway::vichrelka_ptr_name;
 use gateway::vichrelka_table_add;
 use gateway::vichrelka_table_clear;
 use gateway::vichrelka_table_count;
@@ -22,6 +27,12 @@ use listing::Step;
 use reader::peek_at;
 use row::Four;
 use row::read_four;
+ghost use mathlib.Core.Path.{_≡_};
+ghost use lib.ListN.{length};
+ghost use Rattle.base.specs.Answer.{Tells};
+ghost use Rattle.slots.specs.Sizes.{mostNames};
+ghost use Rattle.reverse.specs.Sizes.{mostAddresses};
+ghost use Rattle.leases.specs.Calls.{Leases, Ends};
 ghost use Rattle.demands.specs.Demand3.{Demanded};
 ghost use Rattle.demands.specs.Told as spec;
 
@@ -134,6 +145,39 @@ pub fn book_sound(book: &[u8]) -> u64
     vichrelka_book_sound(book)
 }
 
+pub fn ptr_name(family: u32, address: &[u8], out: &mut [u8]) -> u64
+    ensures { λ r. ⌜ spec.ToldC r (λ a. spec.PtrTold family (now (address .entry)) (now (out .entry)) a (now (out .exit))) ⌝ }
+{
+    vichrelka_ptr_name(family, address, out)
+}
+
+pub fn lease(
+    table: &mut [u8],
+    reverse: &mut [u8],
+    name: &[u8],
+    dhcid: &[u8],
+    family: u32,
+    address: &[u8],
+    policy: u32,
+) -> u64
+    ensures { λ r. ⌜ spec.ToldC r (λ a. spec.LeaseTold (now (table .entry)) (now (reverse .entry)) (now (name .entry)) (now (dhcid .entry)) family (now (address .entry)) policy a (now (table .exit)) (now (reverse .exit))) ⌝ }
+{
+    vichrelka_lease(table, reverse, name, dhcid, family, address, policy)
+}
+
+pub fn lease_end(
+    table: &mut [u8],
+    reverse: &mut [u8],
+    name: &[u8],
+    dhcid: &[u8],
+    family: u32,
+    address: &[u8],
+) -> u64
+    ensures { λ r. ⌜ spec.ToldC r (λ a. spec.EndTold (now (table .entry)) (now (reverse .entry)) (now (name .entry)) (now (dhcid .entry)) family (now (address .entry)) a (now (table .exit)) (now (reverse .exit))) ⌝ }
+{
+    vichrelka_lease_end(table, reverse, name, dhcid, family, address)
+}
+
 // A table written as a listing, and that listing loaded into another area.
 pub fn table_carried(table: &[u8], out: &mut [u8], area: &mut [u8]) -> u64
     ensures steps { λ r. ⌜ spec.Carried (now (table .entry)) (now (out .entry)) (now (out .exit)) (now (area .entry)) r (now (area .exit)) ⌝ }
@@ -159,4 +203,182 @@ pub fn listing_step(text: &[u8], at: usize) -> Step
     ensures { λ s. ⌜ spec.StepTold (now (text .entry)) at s ⌝ }
 {
     peek_at(text, at)
+}
+
+// A lease on the sides that are stored, the table in `held` and the reverse side in `behind`: they are read into memory, and the call works there.
+fn lease_in_memory(
+    held: &[u8],
+    behind: &[u8],
+    table: &mut [u8],
+    reverse: &mut [u8],
+    name: &[u8],
+    dhcid: &[u8],
+    family: u32,
+    address: &[u8],
+    policy: u32,
+) -> u64
+    requires { ⌜ (length (now table) ≡ length (now held)) × (length (now reverse) ≡ length (now behind)) ⌝ }
+    ensures { λ r. ⌜ Tells r (λ a. Leases mostNames mostAddresses (now (held .entry)) (now (behind .entry)) (now (name .entry)) (now (dhcid .entry)) family (now (address .entry)) policy a (now (table .exit)) (now (reverse .exit))) ⌝ }
+{
+    put(table, 0, held);
+    put(reverse, 0, behind);
+    vichrelka_lease(table, reverse, name, dhcid, family, address, policy)
+}
+
+// The same, of which then the first k sides are stored, the table first: power fails there.
+fn lease_cut_off(
+    held: &mut [u8],
+    behind: &mut [u8],
+    table: &mut [u8],
+    reverse: &mut [u8],
+    name: &[u8],
+    dhcid: &[u8],
+    family: u32,
+    address: &[u8],
+    policy: u32,
+    k: u32,
+)
+    requires { ⌜ (length (now table) ≡ length (now held)) × (length (now reverse) ≡ length (now behind)) ⌝ }
+    ensures { λ _. ⌜ spec.LeaseCutOff (now (held .entry)) (now (behind .entry)) (now (name .entry)) (now (dhcid .entry)) family (now (address .entry)) policy k (now (held .exit)) (now (behind .exit)) ⌝ }
+{
+    lease_in_memory(
+        held,
+        behind,
+        table,
+        reverse,
+        name,
+        dhcid,
+        family,
+        address,
+        policy,
+    );
+    if k == 0 {
+        return;
+    }
+    put(held, 0, table);
+    if k == 1 {
+        return;
+    }
+    put(behind, 0, reverse);
+}
+
+// A lease that is cut once k of the two sides are stored, and the same lease again, whole. What is then stored is what one uncut lease leaves.
+pub fn lease_cut(
+    held: &mut [u8],
+    behind: &mut [u8],
+    table: &mut [u8],
+    reverse: &mut [u8],
+    name: &[u8],
+    dhcid: &[u8],
+    family: u32,
+    address: &[u8],
+    policy: u32,
+    k: u32,
+) -> u64
+    requires { ⌜ (length (now table) ≡ length (now held)) × (length (now reverse) ≡ length (now behind)) ⌝ }
+    ensures { λ r. ⌜ spec.LeaseMended (now (held .entry)) (now (behind .entry)) (now (name .entry)) (now (dhcid .entry)) family (now (address .entry)) policy k r (now (held .exit)) (now (behind .exit)) ⌝ }
+{
+    lease_cut_off(
+        held,
+        behind,
+        table,
+        reverse,
+        name,
+        dhcid,
+        family,
+        address,
+        policy,
+        k,
+    );
+    let answer = lease_in_memory(
+        held,
+        behind,
+        table,
+        reverse,
+        name,
+        dhcid,
+        family,
+        address,
+        policy,
+    );
+    put(held, 0, table);
+    put(behind, 0, reverse);
+    answer
+}
+
+// An ended lease on the sides that are stored.
+fn end_in_memory(
+    held: &[u8],
+    behind: &[u8],
+    table: &mut [u8],
+    reverse: &mut [u8],
+    name: &[u8],
+    dhcid: &[u8],
+    family: u32,
+    address: &[u8],
+) -> u64
+    requires { ⌜ (length (now table) ≡ length (now held)) × (length (now reverse) ≡ length (now behind)) ⌝ }
+    ensures { λ r. ⌜ Tells r (λ a. Ends mostNames mostAddresses (now (held .entry)) (now (behind .entry)) (now (name .entry)) (now (dhcid .entry)) family (now (address .entry)) a (now (table .exit)) (now (reverse .exit))) ⌝ }
+{
+    put(table, 0, held);
+    put(reverse, 0, behind);
+    vichrelka_lease_end(table, reverse, name, dhcid, family, address)
+}
+
+// The same, of which then the first k sides are stored, the reverse side first: power fails there.
+fn end_cut_off(
+    held: &mut [u8],
+    behind: &mut [u8],
+    table: &mut [u8],
+    reverse: &mut [u8],
+    name: &[u8],
+    dhcid: &[u8],
+    family: u32,
+    address: &[u8],
+    k: u32,
+)
+    requires { ⌜ (length (now table) ≡ length (now held)) × (length (now reverse) ≡ length (now behind)) ⌝ }
+    ensures { λ _. ⌜ spec.EndCutOff (now (held .entry)) (now (behind .entry)) (now (name .entry)) (now (dhcid .entry)) family (now (address .entry)) k (now (held .exit)) (now (behind .exit)) ⌝ }
+{
+    end_in_memory(held, behind, table, reverse, name, dhcid, family, address);
+    if k == 0 {
+        return;
+    }
+    put(behind, 0, reverse);
+    if k == 1 {
+        return;
+    }
+    put(held, 0, table);
+}
+
+// An ended lease that is cut once k of the two sides are stored, and the same again, whole. What is then stored is what one uncut run leaves.
+pub fn end_cut(
+    held: &mut [u8],
+    behind: &mut [u8],
+    table: &mut [u8],
+    reverse: &mut [u8],
+    name: &[u8],
+    dhcid: &[u8],
+    family: u32,
+    address: &[u8],
+    k: u32,
+) -> u64
+    requires { ⌜ (length (now table) ≡ length (now held)) × (length (now reverse) ≡ length (now behind)) ⌝ }
+    ensures { λ r. ⌜ spec.EndMended (now (held .entry)) (now (behind .entry)) (now (name .entry)) (now (dhcid .entry)) family (now (address .entry)) k r (now (held .exit)) (now (behind .exit)) ⌝ }
+{
+    end_cut_off(
+        held,
+        behind,
+        table,
+        reverse,
+        name,
+        dhcid,
+        family,
+        address,
+        k,
+    );
+    let answer = end_in_memory(held, behind, table, reverse, name, dhcid, family, address);
+    put(behind, 0, reverse);
+    put(held, 0, table);
+    answer
 }

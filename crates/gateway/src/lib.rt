@@ -3,11 +3,14 @@
 use base::Answer;
 ghost use Rattle.base.specs.Answer.{Tells};
 ghost use Rattle.book.specs.Calls.{BlockWritten, Replays, Tidies, CountsSound};
+ghost use Rattle.leases.specs.Calls.{Leases, Ends};
 ghost use Rattle.listing.specs.Reading.{limit, Checks};
 ghost use Rattle.dhcid.specs.Chosen.{Names};
 ghost use Rattle.dhcid.specs.Dhcid as request;
 ghost use Rattle.name_text.specs.Calls.{ReadsText, WritesText};
+ghost use Rattle.ptr.specs.Ptr.{PtrWritten};
 ghost use Rattle.records.specs.Calls.{Writes, Loads};
+ghost use Rattle.reverse.specs.Sizes.{mostAddresses};
 ghost use Rattle.table.specs.Calls.{Adds, Removes, Clears, Finds, Counts};
 ghost use Rattle.slots.specs.Sizes.{mostNames};
 
@@ -165,4 +168,45 @@ pub extern "C" fn vichrelka_book_sound(book: &[u8]) -> u64
     ensures { λ r. ⌜ Tells r (λ a. CountsSound mostNames (now (book .entry)) a) ⌝ }
 {
     Answer::Accepted(book_replay::sound_blocks(book)).for_c()
+}
+
+// uint64_t vichrelka_ptr_name(uint32_t family, const uint8_t *address, size_t address_len, uint8_t *out, size_t out_len)
+#[no_mangle]
+pub extern "C" fn vichrelka_ptr_name(family: u32, address: &[u8], out: &mut [u8]) -> u64
+    ensures { λ r. ⌜ Tells r (λ a. PtrWritten family (now (address .entry)) (now (out .entry)) a (now (out .exit))) ⌝ }
+{
+    ptr::write(family, address, out).for_c()
+}
+
+// uint64_t vichrelka_lease(uint8_t *table, size_t table_len, uint8_t *reverse, size_t reverse_len, const uint8_t *name, size_t name_len,
+//                          const uint8_t *dhcid, size_t dhcid_len, uint32_t family, const uint8_t *address, size_t address_len, uint32_t policy)
+#[no_mangle]
+pub extern "C" fn vichrelka_lease(
+    table: &mut [u8],
+    reverse: &mut [u8],
+    name: &[u8],
+    dhcid: &[u8],
+    family: u32,
+    address: &[u8],
+    policy: u32,
+) -> u64
+    ensures { λ r. ⌜ Tells r (λ a. Leases mostNames mostAddresses (now (table .entry)) (now (reverse .entry)) (now (name .entry)) (now (dhcid .entry)) family (now (address .entry)) policy a (now (table .exit)) (now (reverse .exit))) ⌝ }
+{
+    lease_calls::lease(table, reverse, name, dhcid, family, address, policy).for_c()
+}
+
+// uint64_t vichrelka_lease_end(uint8_t *table, size_t table_len, uint8_t *reverse, size_t reverse_len, const uint8_t *name, size_t name_len,
+//                              const uint8_t *dhcid, size_t dhcid_len, uint32_t family, const uint8_t *address, size_t address_len)
+#[no_mangle]
+pub extern "C" fn vichrelka_lease_end(
+    table: &mut [u8],
+    reverse: &mut [u8],
+    name: &[u8],
+    dhcid: &[u8],
+    family: u32,
+    address: &[u8],
+) -> u64
+    ensures { λ r. ⌜ Tells r (λ a. Ends mostNames mostAddresses (now (table .entry)) (now (reverse .entry)) (now (name .entry)) (now (dhcid .entry)) family (now (address .entry)) a (now (table .exit)) (now (reverse .exit))) ⌝ }
+{
+    lease_calls::end(table, reverse, name, dhcid, family, address).for_c()
 }

@@ -6,7 +6,7 @@ use mathlib.Core.Logic.{inl, inr}
 use mathlib.Core.List.{List, []}
 use mathlib.Core.Option.{some}
 use Rattle.base.specs.Bytes.{eqBytes}
-use Rattle.base.specs.Order.{AllHold}
+use Rattle.base.specs.Order.{Test}
 use Rattle.base.specs.declared.Answer.{Answer}
 use Rattle.base.specs.declared.Answer.the-variants.{Accepted, Refused}
 use Rattle.base.proofs.AnswerLaws.{accepted≢refused}
@@ -16,18 +16,20 @@ use Rattle.slots.specs.Entry.{familyOf, addressOf}
 use Rattle.slots.specs.Form.{TableEntry, tableBytes, Sound}
 use Rattle.slots.proofs.Theorems.{one-sound-table}
 use Rattle.table.specs.Steps.{find}
-use Rattle.reverse.specs.Entry.{ReverseEntry, isAt, entryAt, behind, othersAt}
+use Rattle.reverse.specs.Entry.{behind, othersAt, placed}
 use Rattle.reverse.specs.Form.{reverseBytes, IsReverse, SoundReverse}
 use Rattle.reverse.proofs.Theorems.{one-reverse, one-sound-reverse}
-use Rattle.leases.specs.Plan.{Sides, Plan, writtenFirst, after, uncut, leasePlan, endPlan}
+use Rattle.leases.specs.Plan.{Sides, Plan, writtenFirst, writtenAll, after, uncut, leasePlan, endPlan}
 use Rattle.leases.specs.Calls.{sidesOf, leaseTests, endTests, CalledOn, Leases, Ends}
-use Rattle.leases.specs.Cuts.{CutOff, LeaseCut, LeaseCuts, EndCut, EndCuts, SecondLease, SecondEnd}
+use Rattle.leases.specs.Cuts.{CutOff, LeaseCut, EndCut, SecondLease, SecondEnd}
 use Rattle.leases.proofs.PlanLaws.{
   sides,
   Leasing,
   leasing,
   lease-mends,
+  lease-first,
   lease-all,
+  refused-stays,
   lease-between,
   lease-has-address,
   lease-names,
@@ -37,7 +39,10 @@ use Rattle.leases.proofs.PlanLaws.{
   second-lease-held,
   Ending,
   ending,
+  end-first,
   end-all,
+  end-stays,
+  end-stays-whole,
   end-between,
   end-mends,
   end-names,
@@ -49,17 +54,18 @@ use Rattle.leases.proofs.PlanLaws.{
   SecondAnswer,
   second-end-done,
 }
-use Rattle.leases.proofs.RunLaws.{SoundSides, table-sound, reverse-sound, reverse-names, form-of, all-done, Again, again, was-planned}
+use Rattle.leases.proofs.CutLaws.{Two}
+use Rattle.leases.proofs.RunLaws.{table-sound, reverse-names, form-of, all-done, Again, again, was-planned}
 use Rattle.leases.proofs.LeaseLaws.{lease-mendable, end-mendable}
 
 -- ---- any run, cut after its two writes or not at all
 
 -- a run that was cut after both writes was not cut
-pub whole-cut : (limit places : ℕ) (tests : List ℕ → List ℕ → _) (plan : Sides → Plan) (b c : List ℕ) → ((t : Sound limit b) (u : SoundReverse places c) → after 2 (plan (sidesOf t u)) (sidesOf t u) ≡ uncut (plan (sidesOf t u)) (sidesOf t u))
-    → (r : Answer) (b′ c′ : List ℕ) → CalledOn limit places (tests b c) b c plan r b′ c′ → CutOff limit places tests plan 2 b c b′ c′
-whole-cut limit places tests plan b c both r b′ c′ (inl f) = CutOff.faulty (f .number) (f .fault) (f .table) (f .reverse)
-whole-cut limit places tests plan b c both r b′ c′ (inr g) =
-    let same = sym (both (g .sound) (g .sound-reverse)) in
+stored-all : (limit places : ℕ) (tests : List ℕ → List ℕ → List Test) (plan : Sides → Plan) (b c : List ℕ) (k : ℕ) → ((t : Sound limit b) (u : SoundReverse places c) → Two (plan (sidesOf t u)))
+    → (r : Answer) (b′ c′ : List ℕ) → CalledOn limit places (tests b c) b c plan r b′ c′ → CutOff limit places tests plan (suc (suc k)) b c b′ c′
+stored-all limit places tests plan b c k two r b′ c′ (inl f) = CutOff.faulty (f .number) (f .fault) (f .table) (f .reverse)
+stored-all limit places tests plan b c k two r b′ c′ (inr g) =
+    let same = sym (all-done k (plan (sidesOf (g .sound) (g .sound-reverse))) (sidesOf (g .sound) (g .sound-reverse)) (two (g .sound) (g .sound-reverse))) in
     CutOff.planned (g .all-hold) (g .sound) (g .sound-reverse) (g .table ∙ ap (λ (s : Sides). tableBytes limit (s .table)) same) (g .reverse ∙ ap (λ (s : Sides). reverseBytes places (s .names)) same)
 
 -- the same bytes have the same names
@@ -108,12 +114,6 @@ module _ (limit places : ℕ) (b c name dhcid : List ℕ) (family : ℕ) (addres
       (lease-mendable limit places name dhcid family address policy) b c k b₁ c₁ r r₂ b₀ c₀ b₂ c₂ whole second cut in
       (a .0, a .1, lease-answers k r r₂ b₀ (a .2))
 
-  pub lease-uncut : (r : Answer) (b′ c′ : List ℕ) → Leases limit places b c name dhcid family address policy r b′ c′ → LeaseCut limit places name dhcid family address policy 2 b c b′ c′
-  unfolding Leases LeaseCut
-  lease-uncut r b′ c′ h =
-      whole-cut limit places (λ x y. leaseTests limit places x y name dhcid family address policy) (leasePlan limit places (canonical name) dhcid (familyOf family) address policy) b c
-      (λ t u. all-done _ (sidesOf t u) (lease-mends limit places (canonical name) dhcid (familyOf family) address policy (sidesOf t u) .size (sidesOf t u))) r b′ c′ h
-
   -- one step of an accepted lease: the new table, the old reverse side
   pub lease-one-step : (b₁ c₁ : List ℕ) (r : Answer) (v : ℕ) (b₀ c₀ : List ℕ) → Leases limit places b c name dhcid family address policy r b₀ c₀ → r ≡ Accepted v
       → LeaseCut limit places name dhcid family address policy 1 b c b₁ c₁ → (b₁ ≡ b₀) × (c₁ ≡ c)
@@ -161,6 +161,37 @@ module _ (limit places : ℕ) (b c name dhcid : List ℕ) (family : ℕ) (addres
       ∙ lease-others (familyOf family) address (canonical name) (w .names) _ (lease-names limit places (canonical name) dhcid (familyOf family) address policy (sidesOf t w) k)
       ∙ ap (othersAt (familyOf family) address) (one-sound-reverse places c w u)
 
+  -- the states that a host leaves which stores one side after the other: nothing, the table alone, both
+  pub lease-none-stored : (r : Answer) (b₀ c₀ : List ℕ) → Leases limit places b c name dhcid family address policy r b₀ c₀ → LeaseCut limit places name dhcid family address policy 0 b c b c
+  unfolding Leases LeaseCut writtenFirst
+  lease-none-stored r b₀ c₀ (inl f) = CutOff.faulty (f .number) (f .fault) refl refl
+  lease-none-stored r b₀ c₀ (inr g) = CutOff.planned (g .all-hold) (g .sound) (g .sound-reverse) (g .sound .slots .form) (form-of places c (g .sound-reverse))
+
+  pub lease-one-stored : (r : Answer) (b₀ c₀ : List ℕ) → Leases limit places b c name dhcid family address policy r b₀ c₀ → LeaseCut limit places name dhcid family address policy 1 b c b₀ c
+  unfolding Leases LeaseCut writtenAll
+  lease-one-stored r b₀ c₀ (inl f) = CutOff.faulty (f .number) (f .fault) (f .table) refl
+  lease-one-stored r b₀ c₀ (inr g) = go (leasing limit places (canonical name) dhcid (familyOf family) address policy (sidesOf (g .sound) (g .sound-reverse)))
+    where
+      go : Leasing limit places (canonical name) dhcid (familyOf family) address policy (sidesOf (g .sound) (g .sound-reverse))
+          → CutOff limit places (λ x y. leaseTests limit places x y name dhcid family address policy) (leasePlan limit places (canonical name) dhcid (familyOf family) address policy) 1 b c b₀ c
+      go (Leasing.refused m p) =
+          let stays = refused-stays limit places (canonical name) dhcid (familyOf family) address policy (sidesOf (g .sound) (g .sound-reverse)) m 1 p in
+          CutOff.planned (g .all-hold) (g .sound) (g .sound-reverse)
+          (g .table ∙ ap (λ (q : Plan). tableBytes limit (uncut q (sidesOf (g .sound) (g .sound-reverse)) .table)) p ∙ sym (ap (λ (q : Sides). tableBytes limit (q .table)) stays))
+          (form-of places c (g .sound-reverse) ∙ sym (ap (λ (q : Sides). reverseBytes places (q .names)) stays))
+      go (Leasing.accepted v u has a h p) =
+          let one = lease-first limit places (canonical name) dhcid (familyOf family) address policy (sidesOf (g .sound) (g .sound-reverse)) v u p in
+          let all = lease-all limit places (canonical name) dhcid (familyOf family) address policy (sidesOf (g .sound) (g .sound-reverse)) v u p in
+          CutOff.planned (g .all-hold) (g .sound) (g .sound-reverse)
+          (g .table ∙ ap (λ (q : Sides). tableBytes limit (q .table)) (all ∙ sym (ap (λ (q : Sides). sides (q .table) (placed (familyOf family) address (canonical name) (g .sound-reverse .names))) one)))
+          (form-of places c (g .sound-reverse) ∙ sym (ap (λ (q : Sides). reverseBytes places (q .names)) one))
+
+  pub lease-both-stored : (r : Answer) (b₀ c₀ : List ℕ) → Leases limit places b c name dhcid family address policy r b₀ c₀ → (k : ℕ) → LeaseCut limit places name dhcid family address policy (suc (suc k)) b c b₀ c₀
+  unfolding Leases LeaseCut
+  lease-both-stored r b₀ c₀ h k =
+      stored-all limit places (λ x y. leaseTests limit places x y name dhcid family address policy) (leasePlan limit places (canonical name) dhcid (familyOf family) address policy) b c k
+      (λ t u. lease-mends limit places (canonical name) dhcid (familyOf family) address policy (sidesOf t u) .size (sidesOf t u)) r b₀ c₀ h
+
 -- ---- an ended lease
 
 module _ (limit places : ℕ) (b c name dhcid : List ℕ) (family : ℕ) (address : List ℕ) where
@@ -178,7 +209,7 @@ module _ (limit places : ℕ) (b c name dhcid : List ℕ) (family : ℕ) (addres
       left-table : s₀ .table ≡ uncut (endPlan (canonical name) dhcid (familyOf family) address (sidesOf t u)) (sidesOf t u) .table
       left-table =
           let kept = end-mendable limit places name dhcid family address .stays-sound b c hold t u 2 in
-          let both = all-done (endPlan (canonical name) dhcid (familyOf family) address (sidesOf t u)) (sidesOf t u) (end-mends (canonical name) dhcid (familyOf family) address (sidesOf t u) (record { table = t .distinct; names = u .single }) .size (sidesOf t u)) in
+          let both = all-done 0 (endPlan (canonical name) dhcid (familyOf family) address (sidesOf t u)) (sidesOf t u) (end-mends (canonical name) dhcid (familyOf family) address (sidesOf t u) (record { table = t .distinct; names = u .single }) .size (sidesOf t u)) in
           one-sound-table limit b₀ s₀ (table-sound kept (left ∙ ap (λ (q : Sides). tableBytes limit (q .table)) (sym both))) ∙ ap (λ (q : Sides). q .table) both
 
       refused-then : (m o : ℕ) → r ≡ Refused m o → SecondEnd (canonical name) (s₀ .table) k r r₂
@@ -209,12 +240,6 @@ module _ (limit places : ℕ) (b c name dhcid : List ℕ) (family : ℕ) (addres
       again limit places (λ x y. endTests limit places x y name dhcid family address) (endPlan (canonical name) dhcid (familyOf family) address)
       (end-mendable limit places name dhcid family address) b c k b₁ c₁ r r₂ b₀ c₀ b₂ c₂ whole second cut in
       (a .0, a .1, end-answers k r r₂ b₀ (a .2))
-
-  pub end-uncut : (r : Answer) (b′ c′ : List ℕ) → Ends limit places b c name dhcid family address r b′ c′ → EndCut limit places name dhcid family address 2 b c b′ c′
-  unfolding Ends EndCut
-  end-uncut r b′ c′ h =
-      whole-cut limit places (λ x y. endTests limit places x y name dhcid family address) (endPlan (canonical name) dhcid (familyOf family) address) b c
-      (λ t u. all-done _ (sidesOf t u) (end-mends (canonical name) dhcid (familyOf family) address (sidesOf t u) (record { table = t .distinct; names = u .single }) .size (sidesOf t u))) r b′ c′ h
 
   -- one step of an accepted ended lease: the old table, the new reverse side
   pub end-one-step : (b₁ c₁ : List ℕ) (r : Answer) (v : ℕ) (b₀ c₀ : List ℕ) → Ends limit places b c name dhcid family address r b₀ c₀ → r ≡ Accepted v
@@ -259,3 +284,35 @@ module _ (limit places : ℕ) (b c name dhcid : List ℕ) (family : ℕ) (addres
       ap (othersAt (familyOf family) address) (reverse-names kept e′ u₁)
       ∙ end-others (familyOf family) address (canonical name) (w .names) _ (end-names (canonical name) dhcid (familyOf family) address (sidesOf t w) k)
       ∙ ap (othersAt (familyOf family) address) (one-sound-reverse places c w u)
+
+  -- the states that a host leaves which stores one side after the other: nothing, the reverse side alone, both
+  pub end-none-stored : (r : Answer) (b₀ c₀ : List ℕ) → Ends limit places b c name dhcid family address r b₀ c₀ → EndCut limit places name dhcid family address 0 b c b c
+  unfolding Ends EndCut writtenFirst
+  end-none-stored r b₀ c₀ (inl f) = CutOff.faulty (f .number) (f .fault) refl refl
+  end-none-stored r b₀ c₀ (inr g) = CutOff.planned (g .all-hold) (g .sound) (g .sound-reverse) (g .sound .slots .form) (form-of places c (g .sound-reverse))
+
+  pub end-one-stored : (r : Answer) (b₀ c₀ : List ℕ) → Ends limit places b c name dhcid family address r b₀ c₀ → EndCut limit places name dhcid family address 1 b c b c₀
+  unfolding Ends EndCut
+  end-one-stored r b₀ c₀ (inl f) = CutOff.faulty (f .number) (f .fault) refl (f .reverse)
+  end-one-stored r b₀ c₀ (inr g) = go (ending (canonical name) dhcid (familyOf family) address (sidesOf (g .sound) (g .sound-reverse)))
+    where
+      go : Ending (canonical name) dhcid (familyOf family) address (sidesOf (g .sound) (g .sound-reverse))
+          → CutOff limit places (λ x y. endTests limit places x y name dhcid family address) (endPlan (canonical name) dhcid (familyOf family) address) 1 b c b c₀
+      go (Ending.refused m p) =
+          let stays = end-stays (canonical name) dhcid (familyOf family) address (sidesOf (g .sound) (g .sound-reverse)) m 1 p in
+          let whole = end-stays-whole (canonical name) dhcid (familyOf family) address (sidesOf (g .sound) (g .sound-reverse)) m p in
+          CutOff.planned (g .all-hold) (g .sound) (g .sound-reverse)
+          (g .sound .slots .form ∙ sym (ap (λ (q : Sides). tableBytes limit (q .table)) stays))
+          (g .reverse ∙ ap (λ (q : Sides). reverseBytes places (q .names)) (whole ∙ sym stays))
+      go (Ending.accepted u a p after-it) =
+          let one = end-first (canonical name) dhcid (familyOf family) address (sidesOf (g .sound) (g .sound-reverse)) u p in
+          let all = end-all (canonical name) dhcid (familyOf family) address (sidesOf (g .sound) (g .sound-reverse)) u p in
+          CutOff.planned (g .all-hold) (g .sound) (g .sound-reverse)
+          (g .sound .slots .form ∙ sym (ap (λ (q : Sides). tableBytes limit (q .table)) one))
+          (g .reverse ∙ ap (λ (q : Sides). reverseBytes places (q .names)) (all ∙ sym (ap (λ (q : Sides). sides u (q .names)) one)))
+
+  pub end-both-stored : (r : Answer) (b₀ c₀ : List ℕ) → Ends limit places b c name dhcid family address r b₀ c₀ → (k : ℕ) → EndCut limit places name dhcid family address (suc (suc k)) b c b₀ c₀
+  unfolding Ends EndCut
+  end-both-stored r b₀ c₀ h k =
+      stored-all limit places (λ x y. endTests limit places x y name dhcid family address) (endPlan (canonical name) dhcid (familyOf family) address) b c k
+      (λ t u. end-mends (canonical name) dhcid (familyOf family) address (sidesOf t u) (record { table = t .distinct; names = u .single }) .size (sidesOf t u)) r b₀ c₀ h

@@ -20,7 +20,7 @@ use Rattle.reverse.proofs.Theorems.{one-reverse, one-sound-reverse}
 use Rattle.leases.specs.Plan.{Sides, Plan, Write, writtenFirst, writtenAll, after, uncut}
 use Rattle.leases.specs.Calls.{sidesOf, Faulty, Planned, CalledOn}
 use Rattle.leases.specs.Cuts.{CutOff, CutsOff}
-use Rattle.leases.proofs.CutLaws.{OneOf, Two, one-of, Mends, mended, cut-again}
+use Rattle.leases.proofs.CutLaws.{OneOf, Two, one-of, both-done, Mends, mended, cut-again}
 
 -- lists whose bytes are sound sides
 pub record SoundSides (limit places : ℕ) (s : Sides) : Type 0 where
@@ -86,10 +86,10 @@ module _ (limit places : ℕ) (ts : List Test) (b c : List ℕ) (plan : Sides �
 -- ---- runs that are cut
 
 -- two writes are all
-pub all-done : (p : Plan) (s : Sides) → Two p → after 2 p s ≡ uncut p s
+pub all-done : (k : ℕ) (p : Plan) (s : Sides) → Two p → after (suc (suc k)) p s ≡ uncut p s
 unfolding writtenFirst writtenAll
-all-done p s (Two.none e) = ap (λ (ws : List Write). writtenFirst 2 ws s) e ∙ sym (ap (λ (ws : List Write). writtenAll ws s) e)
-all-done p s (Two.two x y e) = ap (λ (ws : List Write). writtenFirst 2 ws s) e ∙ sym (ap (λ (ws : List Write). writtenAll ws s) e)
+all-done k p s (Two.none e) = ap (λ (ws : List Write). writtenFirst (suc (suc k)) ws s) e ∙ sym (ap (λ (ws : List Write). writtenAll ws s) e)
+all-done k p s (Two.two x y e) = ap (λ (ws : List Write). writtenFirst (suc (suc k)) ws s) e ∙ both-done k x y s ∙ sym (ap (λ (ws : List Write). writtenAll ws s) e)
 
 -- what a call's tests and plan have to have
 pub record Mendable (limit places : ℕ) (tests : List ℕ → List ℕ → List Test) (plan : Sides → Plan) : Type 0 where
@@ -179,7 +179,7 @@ module _ (limit places : ℕ) (tests : List ℕ → List ℕ → List Test) (pla
     unfolding writtenFirst s
     three w (OneOf.before e) = (0, omega arith, sym e)
     three w (OneOf.between e) = (1, omega arith, sym e)
-    three w (OneOf.done e) = (2, omega arith, all-done (plan (sidesOf t u)) (sidesOf t u) (m .mends b c t u .size (sidesOf t u)) ∙ sym e)
+    three w (OneOf.done e) = (2, omega arith, all-done 0 (plan (sidesOf t u)) (sidesOf t u) (m .mends b c t u .size (sidesOf t u)) ∙ sym e)
 
     cut-twice : (k j : ℕ) (b₁ c₁ b₂ c₂ : List ℕ) → b₁ ≡ tableBytes limit (after k (plan s) s .table) → c₁ ≡ reverseBytes places (after k (plan s) s .names) → CutOff limit places tests plan j b₁ c₁ b₂ c₂
         → (i : ℕ) × (i ≤ 2) × CutOff limit places tests plan i b c b₂ c₂

@@ -27,7 +27,7 @@ use Rattle.leases.specs.Calls.{leaseTests, Leases, Ends}
 use Rattle.leases.specs.Cuts.{LeaseCut, LeaseCuts, SecondLease, EndCut, EndCuts, SecondEnd, Stored}
 use Rattle.leases.proofs.LeaseLaws.{lease-adds, end-removes}
 use Rattle.leases.proofs.CallLaws.{one-leased, unleased, leases-often, leased-sound, one-ended, unended, ends-often, ended-sound}
-use Rattle.leases.proofs.AgainLaws.{lease-uncut, lease-again, lease-one-step, lease-gives, lease-keeps-others, end-uncut, end-again, end-one-step, end-takes, end-keeps-others}
+use Rattle.leases.proofs.AgainLaws.{lease-both-stored, lease-again, lease-one-step, lease-gives, lease-keeps-others, end-both-stored, end-again, end-one-step, end-takes, end-keeps-others}
 use Rattle.leases.proofs.StoredLaws.{stored-add, stored-remove}
 
 -- ---- a lease
@@ -50,7 +50,7 @@ module _ (limit places : ℕ) (b c name dhcid : List ℕ) (family : ℕ) (addres
 
   -- an uncut run is one that is cut behind its two steps: so what is said of a cut run after each step holds of a whole one too
   pub whole-lease : (r : Answer) (b′ c′ : List ℕ) → Leases limit places b c name dhcid family address policy r b′ c′ → LeaseCut limit places name dhcid family address policy 2 b c b′ c′
-  whole-lease r b′ c′ h = lease-uncut limit places b c name dhcid family address policy r b′ c′ h
+  whole-lease r b′ c′ h = lease-both-stored limit places b c name dhcid family address policy r b′ c′ h 0
 
   -- after each step both sides are sound
   pub sound-lease : (k : ℕ) (b₁ c₁ : List ℕ) → LeaseCut limit places name dhcid family address policy k b c b₁ c₁ → Sound limit b → SoundReverse places c → Sound limit b₁ × SoundReverse places c₁
@@ -100,7 +100,7 @@ module _ (limit places : ℕ) (b c name dhcid : List ℕ) (family : ℕ) (addres
   forward-end r b′ c′ h u = end-removes limit places b c name dhcid family address r b′ c′ h u
 
   pub whole-end : (r : Answer) (b′ c′ : List ℕ) → Ends limit places b c name dhcid family address r b′ c′ → EndCut limit places name dhcid family address 2 b c b′ c′
-  whole-end r b′ c′ h = end-uncut limit places b c name dhcid family address r b′ c′ h
+  whole-end r b′ c′ h = end-both-stored limit places b c name dhcid family address r b′ c′ h 0
 
   pub sound-end : (k : ℕ) (b₁ c₁ : List ℕ) → EndCut limit places name dhcid family address k b c b₁ c₁ → Sound limit b → SoundReverse places c → Sound limit b₁ × SoundReverse places c₁
   sound-end k b₁ c₁ cut s u = ended-sound limit places b c name dhcid family address k b₁ c₁ cut s u

@@ -1,0 +1,15 @@
+/* A new reverse name is put into the last slot of all. */
+#include "lease.h"
+
+static uint64_t judged(struct call *c)
+{
+    uint8_t *pointer = pointer_of(c);
+    uint64_t answer = run(c);
+    if (pointer == NULL && vichrelka_refusal(answer) == 0) {
+        drop(c->reverse, c->reverse + (pointers(c->reverse) - 1) * POINTER);
+        put_pointer(c, c->reverse + REVERSE - POINTER);
+    }
+    return answer;
+}
+
+PLANT_LEASE(judged)

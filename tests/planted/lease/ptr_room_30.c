@@ -1,0 +1,10 @@
+/* In family 4 there has to be room for its longest name. */
+#include "lease.h"
+
+static uint64_t judged(struct pointing *p)
+{
+    uint8_t name[PTR_MOST];
+    return p->family == 4 && p->out_len < 30 && vichrelka_refusal(ptr_with_room(p, name)) == 0 ? refused(OUTPUT_SHORT, 0) : ask_ptr(p);
+}
+
+PLANT_PTR(judged)
