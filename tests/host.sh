@@ -1,7 +1,8 @@
 #!/usr/bin/env bash
 # The example gateway of examples/host, from C99 and again with AddressSanitizer and UBSan: the stored examples, the accident in three ways among them, then
 # damaged messages, every refusal that a command can lead to, a full table, files that are not there and lines that are no commands. Then books of names: what a
-# power cut can leave of the last block, damaged ones, too large ones, and disks that are full. What it says is compared byte for byte, and its exit status. The DHCIDs of the examples are compared with those that Python makes from RFC 4701's definition. The words of a refusal are the
+# power cut can leave of the last block, damaged ones, too large ones, and disks that are full. Then leases and ended leases with their reverse names, cut wherever the
+# power can fail (docs/POWER.md), and a reverse side that is full or damaged. What it says is compared byte for byte, and its exit status. The DHCIDs of the examples are compared with those that Python makes from RFC 4701's definition. The words of a refusal are the
 # header's: what is expected here has its number, and `...`.
 # Last line: `N passed, M failed`, counting comparisons.
 set -uo pipefail
@@ -56,7 +57,7 @@ told() {
   shift 3
   cat >"$out/commands"
   for host in "${hosts[@]}"; do
-    rm -rf "$run"/*.book "$run/books"
+    rm -rf "$run"/*.book* "$run/books"
     [ -z "${books:-}" ] || cp -r "$books" "$run/books"
     (cd "$run" && exec "$host" "$@") <"$out/commands" >"$out/told" 2>"$out/errors"
     got=$?
@@ -356,33 +357,61 @@ gone held.
 gone hand.
 book nothing
 book small
+head-1.bay3.example.net. A 192.0.2.68
 $acid_41
 $base_32
+$feed_21
 book away
 $acid_31
 $base_32
 $acid_41
+reverse names
+192.0.2.31 acid-1.bay3.example.net.
+2001:db8:0:3::21 feed-1.bay3.example.net.
+192.0.2.41 acid-1.bay3.example.net.
+192.0.2.33 base-1.bay3.example.net.
+reverse old
+192.0.2.31 acid-1.bay3.example.net.
+192.0.2.32 base-1.bay3.example.net.
+2001:db8:0:3::21 feed-1.bay3.example.net.
+reverse acid
+192.0.2.31 acid-1.bay3.example.net.
+reverse 192
+reverse small
+192.0.2.31 acid-1.bay3.example.net.
+192.0.2.32 base-1.bay3.example.net.
+192.0.2.41 acid-1.bay3.example.net.
+2001:db8:0:3::21 feed-1.bay3.example.net.
+reverse away
+192.0.2.31 acid-1.bay3.example.net.
+192.0.2.32 base-1.bay3.example.net.
+192.0.2.41 acid-1.bay3.example.net.
 END
 
 told "restart.in, with its books" 1 "$folder/restart.expected" <"$folder/restart.in"
 for book in names tidied old new; do
   same "$book.book of restart.in" "$out/made/$book.book" "$run/$book.book"
 done
+# a clear and a tidying leave the reverse side, and a fresh book of another file begins an empty one
+for book in names:names tidied:names old:old new:old; do
+  same "the reverse side of ${book%:*}.book of restart.in" "$out/made/${book#*:}.book.reverse" "$run/${book%:*}.book.reverse"
+done
 
 # what a power cut can leave of the last block, which changes an address or says that a name is gone: the table is the one before the step or the one after
 # it. Where an older block is whole in its place, by 0 to 3 bytes of the new one, the restart stops.
 cut_off="CUT OFF: %d bytes, of a write that was cut or of a block that was damaged later: a client may have been told of that step"
+bare="NO REVERSE SIDE is beside it: it begins empty, \`renew-reverse\` makes it of the table"
 halted="NOT REPLAYED, nothing cut off: %d bytes are behind the %d sound blocks, and no write that was cut leaves them; a person has to decide: fetch the book again, \
 or go on from the first %d bytes of it in another file"
 for last in "request 4 acid-1.hex 192.0.2.41" "release 4 acid-1.hex 192.0.2.31"; do
   step=${last%% *}
-  rm -rf "$run"/*.book "$out/cuts"
+  rm -rf "$run"/*.book* "$out/cuts"
   printf '%s\n' "new $step.book" "load by-hand.listing" "request 4 acid-1.hex 192.0.2.31" "request 4 base-1.hex 192.0.2.32" \
     "request 6 feed-1.hex 2001:db8:0:3:0:0:0:21" "write before.listing" "$last" "write after.listing" >"$out/text"
   (cd "$run" && exec "$top/host") <"$out/text" >"$out/told"
   is "a book to cut, $step: status" 0 $?
   has "a book to cut, $step" "; stored as block 4" "$out/told"
-  python3 tests/host_books.py cuts "$run/$step.book" 1 "$run/before.listing" "$run/after.listing" "$out/cuts" "$cut_off" "$halted" || stop "Python cuts no book"
+  python3 tests/host_books.py cuts "$run/$step.book" 1 "$run/before.listing" "$run/after.listing" "$out/cuts" "$cut_off" "$halted" "$bare" || stop "Python cuts no book"
   for way in nothing 0xff older; do
     books=$out/cuts/$way/books left=$out/cuts/$way/left told "a $step, cut at every byte, then $way" 1 "$out/cuts/$way/expected" <"$out/cuts/$way/in"
   done
@@ -408,18 +437,18 @@ halted_by() {
 }
 
 cat >"$out/expected" <<END
-book books/zeros.book: blocks: 0, names: 0; $(cut_by 512)
-book books/zeros-3.book: blocks: 0, names: 0; $(cut_by 3)
-book books/nothing.book: blocks: 0, names: 0
-book books/full.book: blocks: 64, names: 64
-book books/42-last.book: blocks: 4, names: 4; $(cut_by 512)
-book books/42-check.book: blocks: 4, names: 4; $(cut_by 512)
-book books/42-number.book: blocks: 4, names: 4; $(cut_by 512)
-book books/511.book: blocks: 4, names: 4; $(cut_by 511)
-book books/192.book: blocks: 192, names: 1
-book books/193.book: blocks: 193, names: 1; $tidy 63 more blocks
-book books/256.book: blocks: 256, names: 1; $tidy 0 more blocks
-book books/whole.book: blocks: 5, names: 5
+book books/zeros.book: blocks: 0, names: 0; $(cut_by 512); $bare
+book books/zeros-3.book: blocks: 0, names: 0; $(cut_by 3); $bare
+book books/nothing.book: blocks: 0, names: 0; $bare
+book books/full.book: blocks: 64, names: 64; $bare
+book books/42-last.book: blocks: 4, names: 4; $(cut_by 512); $bare
+book books/42-check.book: blocks: 4, names: 4; $(cut_by 512); $bare
+book books/42-number.book: blocks: 4, names: 4; $(cut_by 512); $bare
+book books/511.book: blocks: 4, names: 4; $(cut_by 511); $bare
+book books/192.book: blocks: 192, names: 1; $bare
+book books/193.book: blocks: 193, names: 1; $bare; $tidy 63 more blocks
+book books/256.book: blocks: 256, names: 1; $bare; $tidy 0 more blocks
+book books/whole.book: blocks: 5, names: 5; $bare
 book books/42-and-a-byte.book: $(halted_by 513 4 2048): refused 42: ...
 book books/42-middle.book: $(halted_by 1536 2 1024): refused 42: ...
 book books/42-first.book: $(halted_by 2560 0 0): refused 42: ...
@@ -462,7 +491,7 @@ books=$out/bad left=$out/left told "no book is kept" 2 "$out/expected" < <(sed -
 
 # a refused step leaves the book as it is, and so does a restart from another book that is refused; the steps after them are in it
 cat >"$out/expected" <<END
-book books/whole.book: blocks: 5, names: 5
+book books/whole.book: blocks: 5, names: 5; $bare
 request 4 acid-1.hex 192.0.2.31: acid-1.bay3.example.net.: answer 0: the name was free and is now this client's; stored as block 5
 request 4 base-1-as-acid-1.hex 192.0.2.31: acid-1.bay3.example.net.: refused 30: ...
 request 4 acid-1.hex 2001:db8:0:3:0:0:0:1f: acid-1.bay3.example.net.: refused 16: ...
@@ -484,6 +513,7 @@ clear HEAD-1.bay3.example.net.: answer 0: the name is free; stored as block 6
 book books/whole.book: blocks: 7, names: 5
 END
 cp "$out/made/whole-and-1.book" "$out/left/whole.book"
+cp "$out/made/acid.book.reverse" "$out/left/whole.book.reverse"
 books=$out/bad left=$out/left told "refused steps and a book" 2 "$out/expected" < <(sed -n 's/: .*//p' "$out/expected")
 cp "$out/made/whole-and-2.book" "$out/left/whole.book"
 cat "$out/expected-too" >>"$out/expected"
@@ -491,14 +521,14 @@ books=$out/bad left=$out/left told "refused steps and a book, then accepted ones
 
 # a book without room, which is tidied in its place; a fresh one after a load and after new; several steps by one command
 cat >"$out/expected" <<END
-book books/256.book: blocks: 256, names: 1; $tidy 0 more blocks
+book books/256.book: blocks: 256, names: 1; $bare; $tidy 0 more blocks
 request 4 acid-1.hex 192.0.2.31: acid-1.bay3.example.net.: NOT DONE: the book has no room for the blocks of this; say \`tidy FILE\`, and then this again
 clear head-1.bay3.example.net.: NOT DONE: the book has no room for the blocks of this; say \`tidy FILE\`, and then this again
 clear-without-address: NOT DONE: the book has no room for the blocks of this; say \`tidy FILE\`, and then this again
 count: names: 1, and there is room for 63 more
 tidy books/256.book: blocks: 1, they were 256
 request 4 acid-1.hex 192.0.2.31: acid-1.bay3.example.net.: answer 0: the name was free and is now this client's; stored as block 1
-book books/192.book: blocks: 192, names: 1
+book books/192.book: blocks: 192, names: 1; $bare
 request 4 acid-1.hex 192.0.2.31: acid-1.bay3.example.net.: answer 0: the name was free and is now this client's; stored as block 192; $tidy 63 more blocks
 new: done; the book is begun anew, blocks: 0
 book books/192.book: blocks: 0, names: 0
@@ -515,42 +545,57 @@ book books/nothing.book: blocks: 0, names: 0
 book books/256.book: blocks: 2, names: 2
 load-anyway over.listing: refused 32: ...
 load over.listing: NOT LOADED: records: 65, but 64 were written; fetch the file again, or say \`load-anyway FILE\`
-book books/full.book: blocks: 64, names: 64
+book books/full.book: blocks: 64, names: 64; $bare
 load full.listing: records: 64, as many as were written; the book is begun anew, blocks: 64
 END
+rm -f "$out/left"/*
 cp "$out/bad/"* "$out/left"
-cp "$out/made"/{256,192,193,nothing}.book "$out/left"
+cp "$out/made"/{256,192,193,nothing}.book "$out/made/192.book.reverse" "$out/left"
+for book in 256 193 nothing; do
+  cp "$out/made/acid.book.reverse" "$out/left/$book.book.reverse"
+done
 books=$out/bad left=$out/left told "a book without room, and fresh ones" 2 "$out/expected" < <(sed -n 's/: .*//p' "$out/expected")
 
-# a full disk: no file may have more than 1,024 bytes, which are two blocks. The step that is not stored is said, and tidying stores it.
-unstored="NOT STORED: tell no client yet, and look whether the book's file is there, may be written and has room; the next step that is stored, or \`tidy FILE\`, \
-stores this one too"
+# a full disk: no file may have more than 35,840 bytes, which are 70 blocks, or a reverse side. The step that is not stored is said, no other is done before it is,
+# and tidying stores it.
+unstored="NOT STORED: tell no client yet, and look whether the book's file is there, it and its folder may be written, and there is room; the next step that is stored, \
+or \`tidy FILE\`, stores this one too"
+behind="NOT DONE: what was NOT STORED is still not stored; look whether the book's file is there, it and its folder may be written, and there is room; then say this \
+again, or \`tidy FILE\` first"
 cat >"$out/expected" <<END
-new small.book: done; the book is begun anew, blocks: 0
-request 4 acid-1.hex 192.0.2.31: acid-1.bay3.example.net.: answer 0: the name was free and is now this client's; stored as block 0
-request 4 base-1.hex 192.0.2.32: base-1.bay3.example.net.: answer 0: the name was free and is now this client's; stored as block 1
+book small.book: blocks: 68, names: 1; $bare
+request 4 acid-1.hex 192.0.2.31: acid-1.bay3.example.net.: answer 0: the name was free and is now this client's; stored as block 68
+request 4 base-1.hex 192.0.2.32: base-1.bay3.example.net.: answer 0: the name was free and is now this client's; stored as block 69
 request 4 acid-1.hex 192.0.2.41: acid-1.bay3.example.net.: answer 1: the client holds the name, and has this address now; $unstored
-request 6 feed-1.hex 2001:db8:0:3:0:0:0:21: feed-1.bay3.example.net.: answer 0: the name was free and is now this client's; $unstored
+request 6 feed-1.hex 2001:db8:0:3:0:0:0:21: feed-1.bay3.example.net.: $behind
+release 4 base-1.hex 192.0.2.32: base-1.bay3.example.net.: $behind
+clear base-1.bay3.example.net.: $behind
+clear-without-address: $behind
+renew-reverse: $behind
 tidy full.book: not written: look whether the folder is there, may be written and has room
-tidy small.book: not written: look whether the folder is there, may be written and has room
-load full.listing: NOT LOADED: the fresh book is not written; look whether the folder of the book may be written and has room
-release 6 feed-1.hex 2001:db8:0:3:0:0:0:21: feed-1.bay3.example.net.: answer 0: the last address is gone, and the name is free; $unstored
-tidy small.book: blocks: 2, they were 5
-book small.book: blocks: 2, names: 2
-find acid-1.bay3.example.net.: slot 0, held by a client
+show-reverse: addresses: 3
+31.2.0.192.in-addr.arpa. PTR acid-1.bay3.example.net.
+32.2.0.192.in-addr.arpa. PTR base-1.bay3.example.net.
+41.2.0.192.in-addr.arpa. PTR acid-1.bay3.example.net.
+tidy small.book: blocks: 3, they were 71
+request 6 feed-1.hex 2001:db8:0:3:0:0:0:21: feed-1.bay3.example.net.: answer 0: the name was free and is now this client's; stored as block 3
+book small.book: blocks: 4, names: 4
+find acid-1.bay3.example.net.: slot 1, held by a client
 acid-1.bay3.example.net. A 192.0.2.41
 acid-1.bay3.example.net. $acid
 END
 sed -n 's/: .*//p' "$out/expected" >"$out/text"
 for host in "${hosts[@]}"; do
-  rm -rf "$run"/*.book "$run/books"
+  rm -rf "$run"/*.book* "$run/books"
+  head -c $((68 * 512)) "$out/bad/256.book" >"$run/small.book"
   [ ! -e /dev/full ] || ln -s /dev/full "$run/full.book.new"
-  (cd "$run" && trap '' XFSZ && ulimit -f 1 && exec "$host") <"$out/text" 2>"$out/errors" | cat >"$out/told"
+  (cd "$run" && trap '' XFSZ && ulimit -f 35 && exec "$host") <"$out/text" 2>"$out/errors" | cat >"$out/told"
   is "a book on a full disk, ${host##*/}: status" 2 "${PIPESTATUS[0]}"
   same "a book on a full disk, ${host##*/}" "$out/expected" "$out/told"
   same "a book on a full disk, ${host##*/}: error stream" /dev/null "$out/errors"
   same "a book on a full disk, ${host##*/}: the book" "$out/made/small.book" "$run/small.book"
-  is "a book on a full disk, ${host##*/}: what is left beside it" "" "$(find "$run" -name '*.new' -o -name full.book)"
+  same "a book on a full disk, ${host##*/}: the reverse side" "$out/made/small.book.reverse" "$run/small.book.reverse"
+  is "a book on a full disk, ${host##*/}: what is left beside it" "" "$(cd "$run" && find . -name '*.new' -o -name '*.ended' -o -name 'full.book*')"
 done
 
 # the book's file is away for a while, and then has bytes behind the book, as a write that failed leaves them: the next step that is stored stores the ones before it
@@ -561,7 +606,7 @@ request 4 acid-1.hex 192.0.2.31: acid-1.bay3.example.net.: answer 0: the name wa
 write at-first.listing: records: 2
 request 4 base-1.hex 192.0.2.32: base-1.bay3.example.net.: answer 0: the name was free and is now this client's; $unstored
 write away.listing: records: 4
-request 4 acid-1.hex 192.0.2.41: acid-1.bay3.example.net.: answer 1: the client holds the name, and has this address now; stored as blocks 1 to 2
+request 4 acid-1.hex 192.0.2.41: acid-1.bay3.example.net.: what was NOT STORED is stored now; answer 1: the client holds the name, and has this address now; stored as block 2
 END
 
 # wait_for FILE: until the host has written it
@@ -575,7 +620,7 @@ wait_for() {
 }
 
 for host in "${hosts[@]}"; do
-  rm -f "$run"/*.book "$run/at-first.listing" "$run/away.listing" "$out/commands.pipe"
+  rm -f "$run"/*.book* "$run/at-first.listing" "$run/away.listing" "$out/commands.pipe"
   mkfifo "$out/commands.pipe"
   (cd "$run" && exec "$host") <"$out/commands.pipe" >"$out/told" 2>"$out/errors" &
   job=$!
@@ -594,6 +639,265 @@ for host in "${hosts[@]}"; do
   same "a book that is away for a while, ${host##*/}" "$out/expected" "$out/told"
   same "a book that is away for a while, ${host##*/}: error stream" /dev/null "$out/errors"
   same "a book that is away for a while, ${host##*/}: the book" "$out/made/away.book" "$run/away.book"
+  same "a book that is away for a while, ${host##*/}: the reverse side" "$out/made/away.book.reverse" "$run/away.book.reverse"
+done
+
+# ---- leases with their reverse names, and power cuts
+
+# power.in is run above, with the stored examples. Its power.expected is from a scratch model of document 02 (K1, K5, K7), which read power.in before host.c first ran
+# it. It shows rows 2 to 6 of both tables of docs/POWER.md. tests/host_power.py runs all seven of both, by their names there, for nine steps, in a process that ends at
+# the cut and another one that restarts; then each step cut twice; then a lease and an ended one with the block cut at each of its 0 to 512 bytes. What is compared is
+# what stands after the cut, what the second run answers, and both sides after it with those of the uncut run.
+# Last, the process is ended, not by its own command, before each call of fsync, rename and remove, and the same is run again. That is what tests/host_power.c is for;
+# with it nothing is put on the disk, which makes the thousands of restarts quick. The rows of a lease and of an ended one are run without it too.
+power() {
+  rm -rf "$run"/*.book* "$run/books"
+  python3 tests/host_power.py <(python3 "$folder/dhcids.py") "$run" "$@" >"$out/power.log" 2>&1
+  sed '$d' "$out/power.log"
+  [[ $(tail -n 1 "$out/power.log") =~ ^([0-9]+)\ passed,\ ([0-9]+)\ failed$ ]] || stop "host_power.py $1 did not end: $(tail -n 1 "$out/power.log")"
+  passed=$((passed + BASH_REMATCH[1]))
+  failed=$((failed + BASH_REMATCH[2]))
+}
+
+stores="tests/host_power.c -Wl,--wrap=fsync,--wrap=rename,--wrap=remove"
+stopped=("$top/stopped")
+# shellcheck disable=SC2086
+cc -std=c99 -O2 $warn -Iinclude -o "$out/stopped" "$folder/host.c" $stores "$archive" || stop "host.c does not link with host_power.c"
+if [ -n "$sanitize" ]; then
+  # shellcheck disable=SC2086
+  cc -std=c99 -O1 -g $warn $sanitize -Iinclude -o "$out/stopped-sanitized" "$folder/host.c" $stores "$archive" || stop "host.c does not link with host_power.c and sanitizers"
+  stopped+=("$top/stopped-sanitized")
+fi
+power all "${stopped[@]}"
+power stops "${stopped[0]}"
+power rows "${hosts[0]}"
+
+# slip WHAT SCRIPT: a gateway with one slip, made by sed, has to be told by the rows of a lease and of an ended one
+slip() {
+  sed "$2" "$folder/host.c" >"$out/slip.c"
+  # shellcheck disable=SC2086
+  if cmp -s "$folder/host.c" "$out/slip.c"; then
+    fail "$1: nothing is changed, so this tries nothing"
+  elif ! cc -std=c99 -O0 -Iinclude -o "$out/slip" "$out/slip.c" $stores "$archive" 2>"$out/slip.log"; then
+    fail "$1: it does not compile"
+  else
+    python3 tests/host_power.py <(python3 "$folder/dhcids.py") "$run" rows "$top/slip" >"$out/slip.log" 2>&1
+    if tail -n 1 "$out/slip.log" | grep -q 'passed, [1-9][0-9]* failed$'; then pass; else fail "$1: not told"; fi
+  fi
+}
+
+slip "the order turned round" 's/g->is_reverse_first = is_end;/g->is_reverse_first = !is_end;/'
+slip "told too early" 's/^    is_stored = store(g);/    printf("answer %u: ", (unsigned)vichrelka_value(answer));\n&/'
+slip "an ended lease is not kept" 's/g->has_ended = save(with_ending(path, g->path, ENDED).*/g->has_ended = 0, (void)lease, (void)path;/; s/return g->has_ended;/return 1;/'
+slip "an ended lease is kept for ever" 's/g->has_ended = !forget(g->path);/g->has_ended = 0;/'
+slip "an ended lease is not run again" 's/again = end_again(g, &ended);/again = ACCEPTED;/'
+slip "33 is not taken as done" 's/(vichrelka_refusal(answer) == VICHRELKA_REFUSED_NAME_NOT_HELD ||/(/'
+slip "the reverse side is written over" 's/with_ending(path, g->path, ".reverse.new")/with_ending(path, g->path, REVERSE)/'
+slip "a restart reads no reverse side" 's/memcpy(g->reverse, reverse, sizeof g->reverse);/memset(g->reverse, 0, sizeof g->reverse);/'
+slip "the reverse side is not stored" 's/g->is_reverse_changed = !save(.*/g->is_reverse_changed = 0;/'
+
+# the power is off; cuts that are none
+no_book="no book is kept: say \`book FILE\` to go on from one, or \`new FILE\` to begin one"
+place="no such place: there are before, between, after, in-block N (0 to 512) and in-reverse N (0 to 34944)"
+off="NOT DONE: the power is off; say \`restart\`"
+cat >"$out/expected" <<END
+cut before: $no_book
+restart: $no_book
+release 4 acid-1.hex 192.0.2.31: acid-1.bay3.example.net.: refused 33: ...
+new a.book: done; the book is begun anew, blocks: 0
+cut: $wrong
+cut nowhere: $place
+cut before 1: $place
+cut in-block: $place
+cut in-block 513: $place
+cut in-block -1: $place
+cut in-block 1x: $place
+cut in-reverse 34945: $place
+cut in-reverse: $place
+cut in-block 1 2: $wrong
+request 4 acid-1.hex 192.0.2.31: acid-1.bay3.example.net.: answer 0: the name was free and is now this client's; stored as block 0
+cut before: done
+cut after: done
+clear acid-1.bay3.example.net.: answer 0: the name is free; stored as block 1
+request 4 7-discover.hex 192.0.2.31: refused 7: ...
+request 4 acid-1.hex 192.0.2.31: acid-1.bay3.example.net.: POWER CUT: both are stored; nobody was told, say \`restart\`
+show: $off
+show-reverse: $off
+request 4 acid-1.hex 192.0.2.31: $off
+new: $off
+frobnicate: $wrong
+book nowhere.book: $unread
+count: $off
+restart: blocks: 3, names: 1
+restart: blocks: 3, names: 1
+count: names: 1, and there is room for 63 more
+show-reverse: addresses: 1
+31.2.0.192.in-addr.arpa. PTR acid-1.bay3.example.net.
+new: done; the book is begun anew, blocks: 0
+show-reverse: addresses: 0
+restart: blocks: 0, names: 0
+show-reverse: addresses: 0
+show-reverse a: $wrong
+renew-reverse: addresses: 0, they were 0
+restart a: $wrong
+END
+told "the power is off" 2 "$out/expected" < <(sed -n 's/: .*//p' "$out/expected")
+
+# a reverse side of 128 addresses: a lease with another one is 46, with one that is there it is not, and an ended lease is not; made anew of the table it has room. It has
+# then the addresses of both families of names with a DHCID, and of no others. A clear and a load leave it as it is
+{
+  echo "load by-hand.listing: records: 1, and the file does not say how many were written"
+  for ((i = 0; i < 128; i++)); do
+    echo "request 4 acid-1.hex 198.51.100.$i: acid-1.bay3.example.net.: answer $((i > 0)): $( ((i > 0)) && echo "the client holds the name, and has this address now" ||
+      echo "the name was free and is now this client's")"
+  done
+  cat <<END
+request 4 acid-1.hex 198.51.100.128: acid-1.bay3.example.net.: refused 46: ...
+request 6 feed-1.hex 2001:db8:0:3:0:0:0:21: feed-1.bay3.example.net.: refused 46: ...
+request 4 acid-1-successor.hex 198.51.100.128: acid-1.bay3.example.net.: refused 46: ...
+request 4 acid-1-successor.hex 198.51.100.3: acid-1.bay3.example.net.: refused 30: ...
+request 4 acid-1.hex 198.51.100.3: acid-1.bay3.example.net.: answer 1: the client holds the name, and has this address now
+release 4 acid-1.hex 198.51.100.4: acid-1.bay3.example.net.: refused 34: ...
+release 4 acid-1.hex 198.51.100.3: acid-1.bay3.example.net.: answer 0: the last address is gone, and the name is free
+request 6 feed-1.hex 2001:db8:0:3:0:0:0:21: feed-1.bay3.example.net.: answer 0: the name was free and is now this client's
+request 4 feed-1-ipv4.hex 192.0.2.34: feed-1.bay3.example.net.: refused 46: ...
+renew-reverse: addresses: 1, they were 128
+request 4 feed-1-ipv4.hex 192.0.2.34: feed-1.bay3.example.net.: answer 1: the client holds the name, and has this address now
+request 4 acid-1.hex 198.51.100.128: acid-1.bay3.example.net.: answer 0: the name was free and is now this client's
+clear acid-1.bay3.example.net.: answer 0: the name is free
+show-reverse: addresses: 3
+1.2.0.0.0.0.0.0.0.0.0.0.0.0.0.0.3.0.0.0.0.0.0.0.8.b.d.0.1.0.0.2.ip6.arpa. PTR feed-1.bay3.example.net.
+34.2.0.192.in-addr.arpa. PTR feed-1.bay3.example.net.
+128.100.51.198.in-addr.arpa. PTR acid-1.bay3.example.net.
+renew-reverse: addresses: 2, they were 3
+show-reverse: addresses: 2
+34.2.0.192.in-addr.arpa. PTR feed-1.bay3.example.net.
+1.2.0.0.0.0.0.0.0.0.0.0.0.0.0.0.3.0.0.0.0.0.0.0.8.b.d.0.1.0.0.2.ip6.arpa. PTR feed-1.bay3.example.net.
+load full.listing: records: 64, as many as were written
+show-reverse: addresses: 2
+34.2.0.192.in-addr.arpa. PTR feed-1.bay3.example.net.
+1.2.0.0.0.0.0.0.0.0.0.0.0.0.0.0.3.0.0.0.0.0.0.0.8.b.d.0.1.0.0.2.ip6.arpa. PTR feed-1.bay3.example.net.
+renew-reverse: addresses: 0, they were 2
+END
+} >"$out/expected"
+told "a full reverse side" 1 "$out/expected" < <(sed -n 's/: .*//p' "$out/expected")
+
+# what is beside a book and is no reverse side, or no ended lease: nothing is cut off or replayed
+rm -rf "$out/beside" "$out/left"
+mkdir "$out/beside"
+for side in short long text folder address name short-ended long-ended folder-ended wide; do
+  head -c $((5 * 512 - 1)) "$out/bad/whole.book" >"$out/beside/$side.book"
+done
+head -c 34943 "$out/made/acid.book.reverse" >"$out/beside/short.book.reverse"
+{ cat "$out/made/acid.book.reverse" && printf '\0'; } >"$out/beside/long.book.reverse"
+{ printf x && tail -c +2 "$out/made/acid.book.reverse"; } >"$out/beside/text.book.reverse"
+{ head -c 273 "$out/made/acid.book.reverse" && head -c $((127 * 273)) "$out/made/acid.book.reverse"; } >"$out/beside/address.book.reverse"
+{ head -c 19 "$out/made/acid.book.reverse" && printf A && tail -c +21 "$out/made/acid.book.reverse"; } >"$out/beside/name.book.reverse"
+mkdir "$out/beside/folder.book.reverse" "$out/beside/folder-ended.book.ended"
+head -c 308 /dev/zero >"$out/beside/short-ended.book.ended"
+head -c 310 /dev/zero >"$out/beside/long-ended.book.ended"
+{ printf '\4\21' && head -c 307 /dev/zero; } >"$out/beside/wide.book.ended"
+no_side="NOT REPLAYED, nothing cut off: FILE.reverse is no reverse side; fetch it again, or take it away, say this again and then \`renew-reverse\`"
+no_ended="NOT REPLAYED, nothing cut off: FILE.ended is no ended lease; take it away, say this again and then \`release\` for the lease that had ended"
+cat >"$out/expected" <<END
+book books/short.book: $no_side
+book books/long.book: $no_side
+book books/text.book: $no_side
+book books/address.book: $no_side
+book books/name.book: $no_side
+book books/folder.book: $no_side
+book books/short-ended.book: $no_ended
+book books/long-ended.book: $no_ended
+book books/folder-ended.book: $no_ended
+book books/wide.book: $no_ended
+count: names: 0, and there is room for 64 more
+END
+cp -r "$out/beside" "$out/left"
+books=$out/beside left=$out/left told "no reverse side, or no ended lease" 1 "$out/expected" < <(sed -n 's/: .*//p' "$out/expected")
+# an ended lease that the library refuses is said, and kept no longer
+rm -rf "$out/beside" "$out/left"
+mkdir "$out/beside"
+cp "$out/bad/whole.book" "$out/beside"
+cp -r "$out/beside" "$out/left"
+head -c 309 /dev/zero >"$out/beside/whole.book.ended"
+printf '%s\n' "book books/whole.book: blocks: 5, names: 5; $bare" "an ended lease was kept, : refused 12: ..." "restart: blocks: 5, names: 5; $bare" >"$out/expected"
+books=$out/beside left=$out/left told "an ended lease that is refused" 1 "$out/expected" < <(printf 'book books/whole.book\nrestart\n')
+
+# files that cannot be written, since a folder is in the place of their other names: an ended lease that cannot be kept is not begun; a tidied and a fresh book whose
+# reverse side cannot be stored are not written; a lease whose reverse side cannot be stored is not told, and answers 1 in the next process, with the folder away. On a
+# full disk an ended lease whose block cannot be stored is kept over a restart, and done when the book is tidied
+for host in "${hosts[@]}"; do
+  rm -rf "$run"/*.book* "$run/books"
+  cat >"$out/expected" <<END
+new a.book: done; the book is begun anew, blocks: 0
+request 4 acid-1.hex 192.0.2.31: acid-1.bay3.example.net.: answer 0: the name was free and is now this client's; stored as block 0
+release 4 acid-1.hex 192.0.2.31: acid-1.bay3.example.net.: NOT DONE: the ended lease cannot be kept beside the book; look whether the folder may be written and has room, then this again
+show-reverse: addresses: 1
+31.2.0.192.in-addr.arpa. PTR acid-1.bay3.example.net.
+tidy other.book: not written: look whether the folder is there, may be written and has room
+new other.book: not written: look whether the folder is there, may be written and has room
+request 4 base-1.hex 192.0.2.32: base-1.bay3.example.net.: answer 0: the name was free and is now this client's; stored as block 1
+END
+  mkdir -p "$run/a.book.ended.new/x" "$run/other.book.reverse.new/x"
+  (cd "$run" && exec "$host") < <(sed -n 's/: .*//p' "$out/expected") >"$out/told" 2>&1
+  is "files that cannot be written, ${host##*/}: status" 2 $?
+  same "files that cannot be written, ${host##*/}" "$out/expected" "$out/told"
+  is "files that cannot be written, ${host##*/}: what is left" "./a.book ./a.book.ended.new ./a.book.reverse ./other.book.reverse.new" \
+    "$(cd "$run" && find . -maxdepth 1 -name '*.book*' | sort | tr '\n' ' ' | sed 's/ $//')"
+  rm -r "$run/a.book.ended.new" "$run/other.book.reverse.new"
+  mkdir -p "$run/a.book.reverse.new/x"
+  cat >"$out/expected" <<END
+book a.book: blocks: 2, names: 2
+request 4 acid-1.hex 192.0.2.41: acid-1.bay3.example.net.: answer 1: the client holds the name, and has this address now; $unstored
+request 4 acid-1.hex 192.0.2.41: acid-1.bay3.example.net.: $behind
+load by-hand.listing: records: 1, and the file does not say how many were written; the book is begun anew, blocks: 1
+request 4 acid-1.hex 192.0.2.41: acid-1.bay3.example.net.: $behind
+END
+  (cd "$run" && cp a.book b.book && cp a.book.reverse b.book.reverse && exec "$host") < <(sed -n '1,3s/: .*//p' "$out/expected") >"$out/told" 2>&1
+  is "a reverse side that cannot be stored, ${host##*/}: status" 2 $?
+  sed -n 1,3p "$out/expected" >"$out/expected-too"
+  same "a reverse side that cannot be stored, ${host##*/}" "$out/expected-too" "$out/told"
+  rm -r "$run/a.book.reverse.new"
+  mkdir -p "$run/b.book.reverse.new/x"
+  sed -i 's/a\.book/b.book/' "$out/expected"
+  (cd "$run" && exec "$host") < <(sed -n 's/: .*//p' "$out/expected") >"$out/told" 2>&1
+  same "a load while a reverse side cannot be stored, ${host##*/}" "$out/expected" "$out/told"
+  rm -r "$run/b.book.reverse.new"
+  cat >"$out/expected" <<END
+book a.book: blocks: 3, names: 2
+show-reverse: addresses: 2
+31.2.0.192.in-addr.arpa. PTR acid-1.bay3.example.net.
+32.2.0.192.in-addr.arpa. PTR base-1.bay3.example.net.
+request 4 acid-1.hex 192.0.2.41: acid-1.bay3.example.net.: answer 1: the client holds the name, and has this address now; stored as block 3
+END
+  (cd "$run" && exec "$host") < <(sed -n 's/: .*//p' "$out/expected") >"$out/told" 2>&1
+  same "a reverse side that could not be stored, again, ${host##*/}" "$out/expected" "$out/told"
+  same "a reverse side that could not be stored, again, ${host##*/}: the file" "$out/made/away.book.reverse" "$run/a.book.reverse"
+  # the book has as many blocks as the disk has room for, and the reverse side has room: only the first store of an ended lease is done
+  python3 tests/host_books.py made "$run" <<END || stop "Python makes no full book"
+book full
+$(for ((i = 0; i < 68; i++)); do echo "$gateway"; done)
+$acid_31
+$feed_21
+reverse full
+192.0.2.31 acid-1.bay3.example.net.
+2001:db8:0:3::21 feed-1.bay3.example.net.
+END
+  cat >"$out/expected" <<END
+book full.book: blocks: 70, names: 3
+release 4 acid-1.hex 192.0.2.31: acid-1.bay3.example.net.: answer 0: the last address is gone, and the name is free; $unstored
+restart: blocks: 70, names: 3
+an ended lease was kept, acid-1.bay3.example.net.: answer 0: the last address is gone, and the name is free; $unstored
+release 6 feed-1.hex 2001:db8:0:3:0:0:0:21: feed-1.bay3.example.net.: $behind
+tidy full.book: blocks: 2, they were 71
+release 6 feed-1.hex 2001:db8:0:3:0:0:0:21: feed-1.bay3.example.net.: answer 0: the last address is gone, and the name is free; stored as block 2
+restart: blocks: 3, names: 1
+show-reverse: addresses: 0
+END
+  (cd "$run" && trap '' XFSZ && ulimit -f 35 && exec "$host") < <(sed '/^an ended/d; s/: .*//' "$out/expected") 2>"$out/errors" | cat >"$out/told"
+  is "an ended lease on a full disk, ${host##*/}: status" 2 "${PIPESTATUS[0]}"
+  same "an ended lease on a full disk, ${host##*/}" "$out/expected" "$out/told"
+  is "an ended lease on a full disk, ${host##*/}: what is left beside it" "" "$(cd "$run" && find . -name '*.new' -o -name '*.ended')"
 done
 
 # ---- lines that are no commands

@@ -1,24 +1,39 @@
 """Books of names for tests/host.sh, made of the header's words and Python's own SHA-256, with nothing of the library.
 
     host_books.py made FOLDER <LINES    a book begins at `book NAME`, and has a block for each line: `gone NAME`, or `NAME [A ADDRESS] [AAAA ADDRESS]
-                                        [DHCID BASE64]`
+                                        [DHCID BASE64]`; the reverse side of a book begins at `reverse NAME`, with a line `ADDRESS NAME` for each
     host_books.py bad BOOKS LEFT        books that are damaged, too large or nearly so, and in the folder LEFT what a restart has to leave of each
-    host_books.py cuts BOOK OLDER BEFORE AFTER FOLDER CUT STOP
+    host_books.py cuts BOOK OLDER BEFORE AFTER FOLDER CUT STOP BARE
         What a power cut can leave of the book's last block: so many of its bytes, from none to all, and then nothing, or 0xff, or the bytes of
         the block number OLDER. In FOLDER: the books, what has to be left of them, the commands that restart from each, and what the host has to
-        say. BEFORE and AFTER are the listings before and after the last step; CUT and STOP are what the host says behind its numbers.
+        say. BEFORE and AFTER are the listings before and after the last step; CUT and STOP are what the host says behind its numbers, BARE what
+        it says of a book without a reverse side.
 """
 import base64
 import hashlib
 import ipaddress
 import os
+import re
 import sys
 
 BLOCK = 512
 
 
+def wire_form(name):
+    return b"".join(bytes([len(label)]) + label for label in name.encode().split(b"."))
+
+
+def reverse_side(lines):
+    """The bytes of a reverse side: a slot for each address and the name behind it, then zeros."""
+    slots = b""
+    for address, name in (line.split() for line in lines):
+        packed, wire = ipaddress.ip_address(address).packed, wire_form(name)
+        slots += bytes([4 if len(packed) == 4 else 6]) + packed.ljust(16, b"\0") + bytes([len(wire)]) + wire.ljust(255, b"\0")
+    return slots.ljust(128 * 273, b"\0")
+
+
 def block(number, kind, name, a=b"", aaaa=b"", dhcid=b""):
-    wire = b"".join(bytes([len(label)]) + label for label in name.encode().split(b"."))
+    wire = wire_form(name)
     flags = (1 if a else 0) | (2 if aaaa else 0) | (4 if dhcid else 0)
     slot = bytes([len(wire)]) + wire.ljust(255, b"\0") + bytes([flags]) + a.ljust(4, b"\0") + aaaa.ljust(16, b"\0") + dhcid.ljust(35, b"\0")
     return checked((number.to_bytes(4, "big") + bytes([kind]) + slot).ljust(480, b"\0"))
@@ -103,7 +118,7 @@ def bad(books, left):
         write(f"{left}/{name}.book", content if kept is None else kept)
 
 
-def cuts(path, older, before, after, folder, cut, stop):
+def cuts(path, older, before, after, folder, cut, stop, bare):
     with open(path, "rb") as file:
         book = file.read()
     first, last = book[:-BLOCK], book[-BLOCK:]
@@ -132,10 +147,10 @@ def cuts(path, older, before, after, folder, cut, stop):
                 stored = first + rest
             elif rest == last:
                 table, stored = shown["after"], book
-                says += f"{command}: blocks: {len(book) // BLOCK}, names: {table[0]}\n"
+                says += f"{command}: blocks: {len(book) // BLOCK}, names: {table[0]}; {bare}\n"
             else:
                 table, stored = shown["before"], first
-                says += f"{command}: blocks: {len(first) // BLOCK}, names: {table[0]}" + (f"; {cut % len(rest)}" if rest else "") + "\n"
+                says += f"{command}: blocks: {len(first) // BLOCK}, names: {table[0]}" + (f"; {cut % len(rest)}" if rest else "") + f"; {bare}\n"
             # the first restarts of all may be ones that stop: the table is then still the empty one
             says += table[1] if table else "show: records: 0\n"
             commands += f"{command}\nshow\n"
@@ -148,9 +163,12 @@ def cuts(path, older, before, after, folder, cut, stop):
 
 if __name__ == "__main__":
     if sys.argv[1] == "made":
-        for text in ("\n" + sys.stdin.read()).split("\nbook ")[1:]:
+        for what, text in re.findall(r"^(book|reverse) (.*?)(?=^book |^reverse |\Z)", sys.stdin.read(), re.DOTALL | re.MULTILINE):
             head, *lines = text.splitlines()
-            write(f"{sys.argv[2]}/{head}.book", made(lines))
+            if what == "book":
+                write(f"{sys.argv[2]}/{head}.book", made(lines))
+            else:
+                write(f"{sys.argv[2]}/{head}.book.reverse", reverse_side(lines))
     elif sys.argv[1] == "bad":
         bad(*sys.argv[2:])
     else:

@@ -4,13 +4,16 @@
  *     host [FILE]      commands from FILE, or from standard input, a line each; README.md beside this file tells them
  *
  * It prints a line for each command: what was asked, the name, the answer or the refusal.
- * Exit status: 0 all was accepted, 1 something was refused or cut off, 2 trouble: a command that is none, a file that cannot be read or written.
+ * Exit status: 0 all was accepted, 1 something was refused or cut off, or the power was cut, 2 trouble: a command that is none, a file that cannot be
+ * read or written.
  */
-#define _POSIX_C_SOURCE 200809L /* fileno, fsync and truncate: a book has to be on the disk, and C has no call for that */
+#define _POSIX_C_SOURCE 200809L /* fileno, fsync, open and truncate: a book has to be on the disk, and C has no call for that */
 
 #include <vichrelka.h>
 
 #include <ctype.h>
+#include <errno.h>
+#include <fcntl.h>
 #include <stdio.h>
 #include <string.h>
 #include <unistd.h>
@@ -18,22 +21,44 @@
 enum status { ACCEPTED, REFUSED, TROUBLE };
 
 static const char NOT_WRITTEN[] = "not written: look whether the folder is there, may be written and has room";
+static const char NO_BOOK[] = "no book is kept: say `book FILE` to go on from one, or `new FILE` to begin one";
 
 enum {
-    HAS_DHCID = 4,                           /* of a slot's flags */
+    HAS_A = 1,                               /* of a slot's flags, and the two others */
+    HAS_AAAA = 2,
+    HAS_DHCID = 4,
     LINE_LIMIT = 512,                        /* a command with its end */
+    PATH_ROOM = LINE_LIMIT + 16,             /* a file's name with an ending behind it */
     BOOK_LIMIT = 4 * VICHRELKA_TIDIED_LIMIT, /* the memory for a book, which is lent whole */
     TIDY_BELOW = VICHRELKA_TIDIED_LIMIT      /* with less room than that the book should be tidied */
 };
 
+/* Beside the book's FILE: the reverse side; an ended lease that is not done yet. */
+static const char REVERSE[] = ".reverse", ENDED[] = ".ended";
+
+/* A lease: the client with this DHCID has this name and this address. Bytes and nothing else: an ended one is kept in a file as it is here. */
+struct lease {
+    uint8_t family, address_len, address[16], name_len, name[VICHRELKA_NAME_LIMIT], dhcid[VICHRELKA_DHCID_LEN];
+};
+
+/* Where the power fails in a lease or an ended one, to try what is left: README.md tells the places. */
+enum place { NOWHERE, BEFORE, BETWEEN, AFTER, IN_BLOCK, IN_REVERSE };
+
 struct gateway {
-    uint8_t table[VICHRELKA_TABLE_LEN]; /* all zeros is the empty table */
-    uint8_t book[BOOK_LIMIT];           /* the book that is kept, those of its blocks included that are not in the file yet */
-    size_t book_len, stored_len;        /* its bytes, and how many of them are in the file */
-    char path[LINE_LIMIT];              /* that file; empty as long as no book is kept */
-    uint8_t site[VICHRELKA_NAME_LIMIT]; /* the name for a client without a proper one, in wire form */
-    size_t site_len;                    /* 0 as long as none is set: the library then answers 9 where it would be needed */
+    uint8_t table[VICHRELKA_TABLE_LEN];     /* all zeros is the empty table */
+    uint8_t reverse[VICHRELKA_REVERSE_LEN]; /* all zeros is the empty reverse side */
+    uint8_t book[BOOK_LIMIT];               /* the book that is kept, those of its blocks included that are not in the file yet */
+    size_t book_len, stored_len;            /* its bytes, and how many of them are in the file */
+    int is_reverse_changed;                 /* the reverse side is not yet in the file beside the book */
+    int is_reverse_first;                   /* the last step was an ended lease: it stores the reverse side before its block */
+    int has_ended;                          /* an ended lease is kept beside the book until both are stored */
+    char path[LINE_LIMIT];                  /* the book's file; empty as long as no book is kept */
+    uint8_t site[VICHRELKA_NAME_LIMIT];     /* the name for a client without a proper one, in wire form */
+    size_t site_len;                        /* 0 as long as none is set: the library then answers 9 where it would be needed */
     uint32_t setting, policy;
+    int is_off;                             /* the power was cut, and there was no restart yet */
+    enum place cut, next_cut;               /* where the power fails in this step, and in the next lease or ended one */
+    size_t cut_bytes;                       /* in a block or in the reverse side: after so many of its bytes */
 };
 
 static enum status say(enum status status, const char *what)
@@ -77,22 +102,145 @@ static int is_on_disk(FILE *file)
     return fflush(file) == 0 && fsync(fileno(file)) == 0;
 }
 
+/* The folder has to be on the disk too. A rename that is forgotten brings back the former file, and then two stores are not in their order. */
+static int is_folder_on_disk(const char *path)
+{
+    char folder[PATH_ROOM];
+    const char *slash = strrchr(path, '/');
+    int file, good;
+
+    snprintf(folder, sizeof folder, "%.*s", slash == NULL ? 1 : (int)(slash - path) + 1, slash == NULL ? "." : path);
+    file = open(folder, O_RDONLY);
+    good = file >= 0 && fsync(file) == 0;
+    if (file >= 0)
+        close(file);
+    return good;
+}
+
+/* The name of a file with an ending behind it. */
+static const char *with_ending(char *other, const char *path, const char *ending)
+{
+    snprintf(other, PATH_ROOM, "%s%s", path, ending);
+    return other;
+}
+
+/* A file with this line and these bytes in it. */
+static int write_file(const char *path, const char *line, const uint8_t *bytes, size_t len)
+{
+    FILE *file = fopen(path, "wb");
+    int good = file != NULL && fputs(line, file) >= 0 && fwrite(bytes, 1, len, file) == len && is_on_disk(file);
+
+    return file != NULL && fclose(file) == 0 && good;
+}
+
+/*
+ * A whole file, which begins with this line. It is written under another name first, so that a full disk or a power cut does not cost the
+ * former one, and nothing of that one is left behind the end.
+ */
+static int save(const char *path, const char *line, const uint8_t *bytes, size_t len)
+{
+    char other[PATH_ROOM];
+    int good = write_file(with_ending(other, path, ".new"), line, bytes, len) && rename(other, path) == 0 && is_folder_on_disk(path);
+
+    if (!good)
+        remove(other);
+    return good;
+}
+
+/* Takes the ended lease away that is kept beside this book, if one is: from the disk too, since it would end a later lease. */
+static int forget(const char *path)
+{
+    char other[PATH_ROOM];
+
+    return remove(with_ending(other, path, ENDED)) == 0 ? is_folder_on_disk(path) : errno == ENOENT;
+}
+
+/* A power cut: what was in memory is gone. What this gateway is set up with comes again at a restart: the book's file, site and settings. */
+static void cut_power(struct gateway *g)
+{
+    memset(g->table, 0xff, sizeof g->table);
+    memset(g->reverse, 0xff, sizeof g->reverse);
+    memset(g->book, 0xff, sizeof g->book);
+    g->book_len = g->stored_len = 0;
+    g->is_reverse_changed = g->has_ended = 0;
+    g->cut = NOWHERE;
+    g->is_off = 1;
+}
+
+/* Whether the power fails here. */
+static int fails(struct gateway *g, enum place place)
+{
+    int is_here = g->cut == place;
+
+    if (is_here)
+        cut_power(g);
+    return is_here;
+}
+
 /*
  * Stores the blocks that are not in the file yet, each before the next: a power cut then damages no more than one. The first goes where
  * the stored ones end, so it covers what a try that failed has left there.
  */
-static int store(struct gateway *g)
+static int store_blocks(struct gateway *g)
 {
-    FILE *file = fopen(g->path, "r+b");
+    size_t len = g->cut == IN_BLOCK ? g->cut_bytes : VICHRELKA_BLOCK_LEN;
+    FILE *file = g->stored_len < g->book_len ? fopen(g->path, "r+b") : NULL;
     int good = file != NULL && fseek(file, (long)g->stored_len, SEEK_SET) == 0;
 
+    if (g->stored_len == g->book_len)
+        return 1;
     while (good && g->stored_len < g->book_len) {
-        good = fwrite(g->book + g->stored_len, 1, VICHRELKA_BLOCK_LEN, file) == VICHRELKA_BLOCK_LEN && is_on_disk(file);
+        good = fwrite(g->book + g->stored_len, 1, len, file) == len && is_on_disk(file);
         g->stored_len += good ? VICHRELKA_BLOCK_LEN : 0;
+        good = good && !fails(g, IN_BLOCK);
     }
     if (file != NULL)
         fclose(file);
     return good;
+}
+
+/* Stores the reverse side whole, if it has changed: a power cut leaves the former one or this one. */
+static int store_reverse(struct gateway *g)
+{
+    char path[PATH_ROOM];
+
+    if (!g->is_reverse_changed)
+        return 1;
+    if (g->cut == IN_REVERSE)
+        return write_file(with_ending(path, g->path, ".reverse.new"), "", g->reverse, g->cut_bytes) && !fails(g, IN_REVERSE);
+    g->is_reverse_changed = !save(with_ending(path, g->path, REVERSE), "", g->reverse, sizeof g->reverse);
+    return !g->is_reverse_changed;
+}
+
+/*
+ * Stores what a step has changed. A lease stores its block first and then the reverse side, an ended one the other way round: so what is
+ * stored never has a name behind an address that the name does not have. An ended lease is done then, and need not be kept any longer.
+ */
+static int store(struct gateway *g)
+{
+    int (*first)(struct gateway *) = g->is_reverse_first ? store_reverse : store_blocks;
+    int (*second)(struct gateway *) = g->is_reverse_first ? store_blocks : store_reverse;
+    int good = !fails(g, BEFORE) && first(g) && !fails(g, BETWEEN) && second(g) && !fails(g, AFTER);
+
+    if (good && g->has_ended)
+        g->has_ended = !forget(g->path);
+    return good && !g->has_ended;
+}
+
+/* Stores first what an earlier step could not: two steps that wait may need two orders, and there is one reverse side. */
+static int has_caught_up(struct gateway *g)
+{
+    int is_behind = g->stored_len < g->book_len || g->is_reverse_changed || g->has_ended, good = store(g);
+
+    if (is_behind && good)
+        printf("what was NOT STORED is stored now; ");
+    return good;
+}
+
+static enum status not_caught_up(void)
+{
+    return say(TROUBLE, "NOT DONE: what was NOT STORED is still not stored; look whether the book's file is there, it and its folder may be written, and "
+                        "there is room; then say this again, or `tidy FILE` first");
 }
 
 /* The end of a line about the book: when to tidy it. */
@@ -114,16 +262,16 @@ static uint64_t note(struct gateway *g, const uint8_t *name, size_t len)
     return answer;
 }
 
-/* The end of a step's line: its blocks are stored, or it is said that they are not. The step stands in memory either way. */
-static enum status kept(struct gateway *g)
+/* The end of a step's line: it is stored, from this block on, or it is said that it is not. The step stands in memory either way. */
+static enum status kept(const struct gateway *g, unsigned first, int is_stored)
 {
-    unsigned first = blocks(g->stored_len), end = blocks(g->book_len);
+    unsigned end = blocks(g->book_len);
 
+    if (!is_stored)
+        return say(TROUBLE, "; NOT STORED: tell no client yet, and look whether the book's file is there, it and its folder may be written, and there is "
+                            "room; the next step that is stored, or `tidy FILE`, stores this one too");
     if (first == end)
         return say(ACCEPTED, "");
-    if (!store(g))
-        return say(TROUBLE, "; NOT STORED: tell no client yet, and look whether the book's file is there, may be written and has room; "
-                            "the next step that is stored, or `tidy FILE`, stores this one too");
     printf("; stored as block%s %u", end - first > 1 ? "s" : "", first);
     if (end - first > 1)
         printf(" to %u", end - 1);
@@ -131,14 +279,53 @@ static enum status kept(struct gateway *g)
     return ACCEPTED;
 }
 
-/* The answer of a step on the table, with words for each value that it may have; the block of its name goes into the book. */
+/* The line of a step that the power cut: nobody was told of it. */
+static enum status was_cut(enum place place, size_t bytes)
+{
+    static const char *const LEFT[] = {[BEFORE] = "nothing is stored", [BETWEEN] = "the first of two is stored", [AFTER] = "both are stored",
+                                       [IN_BLOCK] = "bytes of the block are stored", [IN_REVERSE] = "bytes of the reverse side are stored, under another name"};
+
+    printf("POWER CUT: ");
+    if (place == IN_BLOCK || place == IN_REVERSE)
+        printf("%lu ", (unsigned long)bytes);
+    printf("%s; nobody was told, say `restart`\n", LEFT[place]);
+    return REFUSED;
+}
+
+/* A refused step has changed nothing, and stores nothing; an ended lease that is refused need not be kept. */
+static enum status not_stepped(struct gateway *g, uint64_t answer)
+{
+    if (g->cut != NOWHERE) {
+        cut_power(g);
+        return was_cut(BEFORE, 0);
+    }
+    if (g->has_ended)
+        g->has_ended = !forget(g->path);
+    return refused(answer, NULL);
+}
+
+/*
+ * The answer of a step on the table, with words for each value that it may have; the block of its name goes into the book. A client is told
+ * when all is stored, so the line is printed then.
+ */
 static enum status stepped(struct gateway *g, uint64_t answer, const char *const *words, const uint8_t *name, size_t len)
 {
+    enum place cut = g->cut;
+    unsigned first = blocks(g->stored_len);
+    uint64_t noted;
+    int is_stored;
+
     if (vichrelka_refusal(answer) != 0)
-        return refused(answer, NULL);
+        return not_stepped(g, answer);
+    noted = note(g, name, len);
+    if (vichrelka_refusal(noted) != 0)
+        return refused(noted, NULL);
+    is_stored = store(g);
+    if (g->is_off)
+        return was_cut(cut, g->cut_bytes);
+    g->cut = NOWHERE;
     printf("answer %u: %s", (unsigned)vichrelka_value(answer), words[vichrelka_value(answer)]);
-    answer = note(g, name, len);
-    return vichrelka_refusal(answer) != 0 ? refused(answer, NULL) : kept(g);
+    return kept(g, first, is_stored);
 }
 
 /* A name that somebody typed, to wire form: its length, or 0 after the refusal was said. */
@@ -214,44 +401,105 @@ static int read_message(const char *path, uint8_t *message, size_t room, size_t 
     return good;
 }
 
-/* A request or a release of a client: which name, whose, then the step on the table. */
-static enum status do_lease(struct gateway *g, char **words)
+/* Before the call of a lease or an ended one: in which order it will store, and where the power fails. */
+static void prepare(struct gateway *g, int is_end)
+{
+    g->is_reverse_first = is_end;
+    g->cut = g->next_cut;
+    g->next_cut = NOWHERE;
+}
+
+/* The client gets its name with this address, and the address gets the name. */
+static enum status give_lease(struct gateway *g, const struct lease *lease)
 {
     static const char *const GIVEN[] = {"the name was free and is now this client's", "the client holds the name, and has this address now",
                                         "the name was another client's and is now this one's"};
+    uint64_t answer;
+
+    prepare(g, 0);
+    answer = vichrelka_lease(g->table, sizeof g->table, g->reverse, sizeof g->reverse, lease->name, lease->name_len, lease->dhcid, sizeof lease->dhcid,
+                             lease->family, lease->address, lease->address_len, g->policy);
+    g->is_reverse_changed = vichrelka_refusal(answer) == 0 && g->path[0] != '\0';
+    return stepped(g, answer, GIVEN, lease->name, lease->name_len);
+}
+
+/*
+ * An ended lease. Nobody asks for it again, so it is kept beside the book before anything is done, until all is stored. If it was kept from
+ * before a restart, 33 and 34 mean that it was done then.
+ */
+static enum status end_lease(struct gateway *g, const struct lease *lease, int is_again)
+{
     static const char *const TAKEN[] = {"the address is gone, the name stays this client's"};
     static const char *const RETURNED[] = {"the last address is gone, and the name is free"};
-    uint8_t message[VICHRELKA_MESSAGE_LIMIT + 1]; /* one byte more, so that what is too long still is */
-    uint8_t dhcid[VICHRELKA_DHCID_LEN], address[16];
-    uint32_t family = read_family(words[1]);
-    size_t message_len, name_len, address_len = read_address(words[3], address);
-    const uint8_t *name;
     uint64_t answer, found;
 
-    if (!read_message(words[2], message, sizeof message, &message_len))
-        return say(TROUBLE, "no message: look whether the file is there, and has hexadecimal digits in pairs and nothing else");
-    if (address_len == 0)
-        return say(TROUBLE, "no address: write four numbers with dots, or eight groups of hexadecimal digits with colons");
-    answer = vichrelka_name(family, g->setting, message, message_len, g->site, g->site_len);
+    prepare(g, 1);
+    answer = vichrelka_lease_end(g->table, sizeof g->table, g->reverse, sizeof g->reverse, lease->name, lease->name_len, lease->dhcid, sizeof lease->dhcid,
+                                 lease->family, lease->address, lease->address_len);
+    g->is_reverse_changed = vichrelka_refusal(answer) == 0 && g->path[0] != '\0';
+    if (is_again && g->cut == NOWHERE &&
+        (vichrelka_refusal(answer) == VICHRELKA_REFUSED_NAME_NOT_HELD || vichrelka_refusal(answer) == VICHRELKA_REFUSED_ADDRESS_DIFFERS)) {
+        g->has_ended = !forget(g->path);
+        printf("it was done already (%u)\n", (unsigned)vichrelka_refusal(answer));
+        return ACCEPTED;
+    }
+    /* the answer is 0 whether the name stays or goes with its last address: a find tells which */
+    found = vichrelka_table_find(g->table, sizeof g->table, lease->name, lease->name_len);
+    return stepped(g, answer, vichrelka_refusal(found) == VICHRELKA_REFUSED_NAME_NOT_HELD ? RETURNED : TAKEN, lease->name, lease->name_len);
+}
+
+/* Keeps an ended lease beside the book, if a book is kept. */
+static int keep_ended(struct gateway *g, const struct lease *lease)
+{
+    char path[PATH_ROOM];
+
+    if (g->path[0] == '\0')
+        return 1;
+    g->has_ended = save(with_ending(path, g->path, ENDED), "", (const uint8_t *)lease, sizeof *lease);
+    return g->has_ended;
+}
+
+/* The name and the DHCID of a message's client: 0, or the refusal. */
+static uint64_t read_client(const struct gateway *g, const uint8_t *message, size_t len, struct lease *lease)
+{
+    uint64_t answer = vichrelka_name(lease->family, g->setting, message, len, g->site, g->site_len);
+    const uint8_t *name = (vichrelka_name_source(answer) == VICHRELKA_SOURCE_SITE ? g->site : message) + vichrelka_name_start(answer);
+
     if (vichrelka_refusal(answer) != 0)
-        return refused(answer, NULL);
-    name = (vichrelka_name_source(answer) == VICHRELKA_SOURCE_SITE ? g->site : message) + vichrelka_name_start(answer);
-    name_len = vichrelka_name_len(answer);
-    print_name(name, name_len);
+        return answer;
+    lease->name_len = (uint8_t)vichrelka_name_len(answer);
+    memcpy(lease->name, name, lease->name_len);
+    print_name(lease->name, lease->name_len);
     printf(": ");
-    answer = vichrelka_dhcid(family, g->setting, message, message_len, g->site, g->site_len, dhcid, sizeof dhcid);
+    answer = vichrelka_dhcid(lease->family, g->setting, message, len, g->site, g->site_len, lease->dhcid, sizeof lease->dhcid);
+    return vichrelka_refusal(answer) != 0 ? answer : 0;
+}
+
+/* A request or a release of a client: which name, whose, then the lease or its end. */
+static enum status do_lease(struct gateway *g, char **words)
+{
+    uint8_t message[VICHRELKA_MESSAGE_LIMIT + 1]; /* one byte more, so that what is too long still is */
+    struct lease lease = {.family = (uint8_t)read_family(words[1])};
+    size_t len;
+    uint64_t answer;
+
+    lease.address_len = (uint8_t)read_address(words[3], lease.address);
+    if (!read_message(words[2], message, sizeof message, &len))
+        return say(TROUBLE, "no message: look whether the file is there, and has hexadecimal digits in pairs and nothing else");
+    if (lease.address_len == 0)
+        return say(TROUBLE, "no address: write four numbers with dots, or eight groups of hexadecimal digits with colons");
+    answer = read_client(g, message, len, &lease);
     if (vichrelka_refusal(answer) != 0)
         return refused(answer, NULL);
     if (!has_room(g, 1))
         return no_room();
-    if (strcmp(words[0], "request") == 0) {
-        answer = vichrelka_table_add(g->table, sizeof g->table, name, name_len, dhcid, sizeof dhcid, family, address, address_len, g->policy);
-        return stepped(g, answer, GIVEN, name, name_len);
-    }
-    answer = vichrelka_table_remove(g->table, sizeof g->table, name, name_len, dhcid, sizeof dhcid, family, address, address_len);
-    /* the answer is 0 whether the name stays or goes with its last address: a find tells which */
-    found = vichrelka_table_find(g->table, sizeof g->table, name, name_len);
-    return stepped(g, answer, vichrelka_refusal(found) == VICHRELKA_REFUSED_NAME_NOT_HELD ? RETURNED : TAKEN, name, name_len);
+    if (!has_caught_up(g))
+        return not_caught_up();
+    if (strcmp(words[0], "request") == 0)
+        return give_lease(g, &lease);
+    if (!keep_ended(g, &lease))
+        return say(TROUBLE, "NOT DONE: the ended lease cannot be kept beside the book; look whether the folder may be written and has room, then this again");
+    return end_lease(g, &lease, 0);
 }
 
 static enum status do_clear(struct gateway *g, char **words)
@@ -264,6 +512,8 @@ static enum status do_clear(struct gateway *g, char **words)
         return REFUSED;
     if (!has_room(g, 1))
         return no_room();
+    if (!has_caught_up(g))
+        return not_caught_up();
     return stepped(g, vichrelka_table_clear(g->table, sizeof g->table, name, len), CLEARED, name, len);
 }
 
@@ -275,10 +525,14 @@ static enum status do_clear_without_address(struct gateway *g, char **words)
 {
     uint64_t answer = vichrelka_table_count(g->table, sizeof g->table);
     uint32_t i = vichrelka_value(answer), cleared = 0;
+    unsigned first;
 
     (void)words;
     if (!has_room(g, i))
         return no_room();
+    if (!has_caught_up(g))
+        return not_caught_up();
+    first = blocks(g->stored_len);
     for (; vichrelka_refusal(answer) == 0 && i > 0; i--) {
         const uint8_t *slot = g->table + (i - 1) * VICHRELKA_SLOT_LEN;
         uint8_t name[VICHRELKA_NAME_LIMIT], len = slot[0];
@@ -296,7 +550,7 @@ static enum status do_clear_without_address(struct gateway *g, char **words)
     if (vichrelka_refusal(answer) != 0)
         return refused(answer, NULL);
     printf("names: %u", (unsigned)cleared);
-    return kept(g);
+    return kept(g, first, store(g));
 }
 
 /* What the table has of a name. Its slot alone, with zeros behind it, is a table too, which the library writes. */
@@ -351,25 +605,6 @@ static enum status do_set(struct gateway *g, char **words)
 }
 
 /*
- * A whole file, which begins with this line. It is written under another name first, so that a full disk or a power cut does not cost the
- * former one, and nothing of that one is left behind the end.
- */
-static int save(const char *path, const char *line, const uint8_t *bytes, size_t len)
-{
-    char other[1024];
-    int n = snprintf(other, sizeof other, "%s.new", path), good;
-    FILE *file = n < 0 || (size_t)n >= sizeof other ? NULL : fopen(other, "wb");
-
-    if (file == NULL)
-        return 0;
-    good = fputs(line, file) >= 0 && fwrite(bytes, 1, len, file) == len && is_on_disk(file);
-    good = fclose(file) == 0 && good && rename(other, path) == 0;
-    if (!good)
-        remove(other);
-    return good;
-}
-
-/*
  * The table as a listing: to a file, or shown. How many records were written, the check of what was written says. In a file the number is a
  * comment in the first line. That is a habit of this program: the library reads over it.
  */
@@ -388,6 +623,75 @@ static enum status do_write(struct gateway *g, char **words)
         return say(TROUBLE, NOT_WRITTEN);
     printf("records: %u\n%.*s", records, words[1] == NULL ? (int)len : 0, (const char *)text);
     return ACCEPTED;
+}
+
+static unsigned addresses(const uint8_t *reverse)
+{
+    unsigned i = 0;
+
+    while (i < VICHRELKA_REVERSE_NAMES && reverse[i * VICHRELKA_REVERSE_SLOT_LEN] != 0)
+        i++;
+    return i;
+}
+
+/* For each address its PTR name and the name behind it, as a name server has them. */
+static enum status do_show_reverse(struct gateway *g, char **words)
+{
+    unsigned count = addresses(g->reverse), i;
+
+    (void)words;
+    printf("addresses: %u\n", count);
+    for (i = 0; i < count; i++) {
+        const uint8_t *slot = g->reverse + i * VICHRELKA_REVERSE_SLOT_LEN;
+        uint8_t name[VICHRELKA_PTR_LIMIT];
+        uint64_t answer = vichrelka_ptr_name(slot[0], slot + VICHRELKA_REVERSE_ADDRESS, slot[0] == VICHRELKA_IPV4 ? 4 : 16, name, sizeof name);
+
+        print_name(name, vichrelka_value(answer));
+        printf(" PTR ");
+        print_name(slot + VICHRELKA_REVERSE_NAME, slot[VICHRELKA_REVERSE_NAME_LEN]);
+        printf("\n");
+    }
+    return ACCEPTED;
+}
+
+/* The leases of a name again, with what its slot has: the slot is copied, since the library writes to the table. */
+static uint64_t lease_again(struct gateway *g, uint8_t *reverse, uint32_t index)
+{
+    uint8_t slot[VICHRELKA_SLOT_LEN];
+    uint64_t answer = 0;
+
+    memcpy(slot, g->table + index * VICHRELKA_SLOT_LEN, sizeof slot);
+    if ((slot[VICHRELKA_SLOT_FLAGS] & HAS_DHCID) == 0)
+        return 0; /* kept by hand: no client has it */
+    if (slot[VICHRELKA_SLOT_FLAGS] & HAS_A)
+        answer = vichrelka_lease(g->table, sizeof g->table, reverse, VICHRELKA_REVERSE_LEN, slot + VICHRELKA_SLOT_NAME, slot[0], slot + VICHRELKA_SLOT_DHCID,
+                                 VICHRELKA_DHCID_LEN, VICHRELKA_IPV4, slot + VICHRELKA_SLOT_A, 4, g->policy);
+    if (vichrelka_refusal(answer) == 0 && slot[VICHRELKA_SLOT_FLAGS] & HAS_AAAA)
+        answer = vichrelka_lease(g->table, sizeof g->table, reverse, VICHRELKA_REVERSE_LEN, slot + VICHRELKA_SLOT_NAME, slot[0], slot + VICHRELKA_SLOT_DHCID,
+                                 VICHRELKA_DHCID_LEN, VICHRELKA_IPV6, slot + VICHRELKA_SLOT_AAAA, 16, g->policy);
+    return answer;
+}
+
+/* The reverse side made of the table: what names of former addresses it had, and of takeovers and cleared names, are gone. */
+static enum status do_renew_reverse(struct gateway *g, char **words)
+{
+    static uint8_t reverse[VICHRELKA_REVERSE_LEN];
+    uint64_t answer = vichrelka_table_count(g->table, sizeof g->table);
+    uint32_t names = vichrelka_value(answer), i;
+    unsigned before = addresses(g->reverse);
+
+    (void)words;
+    if (!has_caught_up(g))
+        return not_caught_up();
+    memset(reverse, 0, sizeof reverse);
+    for (i = 0; vichrelka_refusal(answer) == 0 && i < names; i++)
+        answer = lease_again(g, reverse, i);
+    if (vichrelka_refusal(answer) != 0)
+        return refused(answer, NULL);
+    memcpy(g->reverse, reverse, sizeof g->reverse);
+    g->is_reverse_changed = g->path[0] != '\0';
+    printf("addresses: %u, they were %u", addresses(g->reverse), before);
+    return kept(g, blocks(g->book_len), store(g));
 }
 
 /* Keeps this book from now on; the file has all of it. */
@@ -412,22 +716,44 @@ static size_t fresh_book(const uint8_t *table, uint8_t *book)
     return len;
 }
 
+/* Whole files in the place of what is there, or with the reverse side as it is if none is given. A failure leaves none that is not this book's. */
+static int replace(const char *path, const uint8_t *reverse, const uint8_t *book, size_t len)
+{
+    char other[PATH_ROOM];
+    int good = forget(path);
+
+    with_ending(other, path, REVERSE);
+    if (reverse == NULL)
+        return good && save(path, "", book, len);
+    good = good && save(other, "", reverse, VICHRELKA_REVERSE_LEN) && save(path, "", book, len);
+    if (!good)
+        remove(other);
+    return good;
+}
+
 /*
- * Takes a table in the place of the former one, with a fresh book of it in this file, or with none. The book comes first: if it cannot be
- * written, table and book are as they were.
+ * Takes a table in the place of the former one, and a reverse side if one is given, with a fresh book of it in this file, or with none. The
+ * files come first: if they cannot be written, the gateway is as it was.
  */
-static int begin(struct gateway *g, const uint8_t *table, const char *path)
+static int begin(struct gateway *g, const uint8_t *table, const uint8_t *reverse, const char *path)
 {
     static uint8_t book[VICHRELKA_TIDIED_LIMIT];
 
     if (path[0] != '\0') {
         size_t len = fresh_book(table, book);
 
-        if (!save(path, "", book, len))
+        if (!replace(path, reverse, book, len)) {
+            g->is_reverse_changed |= reverse != NULL && strcmp(path, g->path) == 0; /* it may be gone from the disk: the next step stores it */
             return 0;
+        }
         keep(g, path, book, len);
+        g->has_ended = 0;
     }
     memcpy(g->table, table, sizeof g->table);
+    if (reverse != NULL) {
+        memcpy(g->reverse, reverse, sizeof g->reverse);
+        g->is_reverse_changed = 0;
+    }
     return 1;
 }
 
@@ -439,33 +765,82 @@ static void print_begun(const struct gateway *g)
     printf("\n");
 }
 
-/* An empty table, and an empty book in the place of the one that is kept; or in another file, but not over one that is there. */
+/* An empty table and an empty reverse side, and an empty book in the place of the one that is kept; or in another file, but not over one that is there. */
 static enum status do_new(struct gateway *g, char **words)
 {
-    static const uint8_t EMPTY[VICHRELKA_TABLE_LEN];
+    static const uint8_t EMPTY[VICHRELKA_TABLE_LEN], NO_ADDRESS[VICHRELKA_REVERSE_LEN];
     FILE *file = words[1] == NULL ? NULL : fopen(words[1], "rb");
 
     if (file != NULL) {
         fclose(file);
         return say(TROUBLE, "NOT DONE: this file is there; go on from its book by `book FILE`, or give another name");
     }
-    if (!begin(g, EMPTY, words[1] == NULL ? g->path : words[1]))
+    if (!begin(g, EMPTY, NO_ADDRESS, words[1] == NULL ? g->path : words[1]))
         return say(TROUBLE, NOT_WRITTEN);
     printf("done");
     print_begun(g);
     return ACCEPTED;
 }
 
-/*
- * A restart from a book. Cut off is only what a write that was cut leaves: a part of a block, or one whole block with a wrong check. With
- * anything else behind the sound blocks a person has to decide, and nothing is cut or replayed.
- */
-static enum status do_book(struct gateway *g, char **words)
+enum content { ABSENT, WHOLE, DAMAGED };
+
+/* A file beside the book, of so many bytes. */
+static enum content read_beside(const char *path, const char *ending, void *bytes, size_t len)
 {
-    static uint8_t book[BOOK_LIMIT + 1], table[VICHRELKA_TABLE_LEN]; /* one byte more, so that what is too long still is */
+    char other[PATH_ROOM];
+    FILE *file = fopen(with_ending(other, path, ending), "rb");
+    enum content content = file == NULL && errno == ENOENT ? ABSENT : DAMAGED;
+
+    if (file != NULL && fread(bytes, 1, len, file) == len && getc(file) == EOF && !ferror(file))
+        content = WHOLE;
+    if (file != NULL)
+        fclose(file);
+    return content;
+}
+
+/* Whether the bytes are a reverse side. An end of no lease is refused with 9, or before that with 40 if they are not. */
+static int is_reverse_side(uint8_t *reverse)
+{
+    static uint8_t table[VICHRELKA_TABLE_LEN];
+    uint64_t answer = vichrelka_lease_end(table, sizeof table, reverse, VICHRELKA_REVERSE_LEN, NULL, 0, NULL, 0, VICHRELKA_IPV4, NULL, 0);
+
+    return vichrelka_refusal(answer) != VICHRELKA_REFUSED_TABLE_NOT_SOUND;
+}
+
+/* What is kept beside a book. Both are renamed when they are whole, so no power cut damages them: a person has to decide. */
+static const char *read_sides(const char *path, uint8_t *reverse, enum content *is_there, struct lease *ended, enum content *is_ended)
+{
+    *is_there = read_beside(path, REVERSE, reverse, VICHRELKA_REVERSE_LEN);
+    *is_ended = read_beside(path, ENDED, ended, sizeof *ended);
+    if (*is_there == ABSENT)
+        memset(reverse, 0, VICHRELKA_REVERSE_LEN);
+    if (*is_there == DAMAGED || !is_reverse_side(reverse))
+        return "NOT REPLAYED, nothing cut off: FILE.reverse is no reverse side; fetch it again, or take it away, say this again and then `renew-reverse`";
+    if (*is_ended == DAMAGED || (*is_ended == WHOLE && ended->address_len > sizeof ended->address))
+        return "NOT REPLAYED, nothing cut off: FILE.ended is no ended lease; take it away, say this again and then `release` for the lease that had ended";
+    return NULL;
+}
+
+/* An ended lease that was kept from before the restart: it may be undone, done in part, or done. */
+static enum status end_again(struct gateway *g, const struct lease *lease)
+{
+    g->has_ended = 1;
+    printf("an ended lease was kept, ");
+    print_name(lease->name, lease->name_len);
+    printf(": ");
+    return end_lease(g, lease, 1);
+}
+
+/*
+ * Reads a book: how many of its bytes are sound, and how many behind them may be cut off. That is only what a write that was cut leaves: a part
+ * of a block, or one whole block with a wrong check. With anything else there a person has to decide.
+ */
+static enum status read_book(const char *path, uint8_t *book, size_t *sound, size_t *rest)
+{
+    static uint8_t table[VICHRELKA_TABLE_LEN];
     static const uint8_t NUMBER[4];
-    FILE *file = fopen(words[1], "r+b");
-    size_t len = file == NULL ? 0 : fread(book, 1, sizeof book, file), sound, rest;
+    FILE *file = fopen(path, "r+b");
+    size_t len = file == NULL ? 0 : fread(book, 1, BOOK_LIMIT + 1, file);
     int is_bad = file == NULL || ferror(file);
     uint64_t answer;
 
@@ -477,35 +852,92 @@ static enum status do_book(struct gateway *g, char **words)
         printf("TOO LARGE: there is memory for %u blocks; build this program with a larger BOOK_LIMIT, and tidy the book\n", blocks(BOOK_LIMIT));
         return TROUBLE;
     }
-    sound = (size_t)vichrelka_value(vichrelka_book_sound(book, len)) * VICHRELKA_BLOCK_LEN;
-    rest = len - sound;
+    *sound = (size_t)vichrelka_value(vichrelka_book_sound(book, len)) * VICHRELKA_BLOCK_LEN;
+    *rest = len - *sound;
     /* somebody may have named another file, and it would be lost: the first block of a book has the number 0 */
-    if (sound == 0 && memcmp(book, NUMBER, rest < sizeof NUMBER ? rest : sizeof NUMBER) != 0)
+    if (*sound == 0 && memcmp(book, NUMBER, len < sizeof NUMBER ? len : sizeof NUMBER) != 0)
         return say(REFUSED, "NOT REPLAYED, nothing cut off: no block is sound, and the file does not begin as a book; look whether it is one");
-    if (rest >= VICHRELKA_BLOCK_LEN) {
-        answer = vichrelka_book_replay(table, sizeof table, book, sound + VICHRELKA_BLOCK_LEN);
-        if (rest > VICHRELKA_BLOCK_LEN || vichrelka_refusal(answer) != VICHRELKA_REFUSED_WRONG_CHECK) {
-            printf("NOT REPLAYED, nothing cut off: %lu bytes are behind the %u sound blocks, and no write that was cut leaves them; a person has to "
-                   "decide: fetch the book again, or go on from the first %lu bytes of it in another file: ",
-                   (unsigned long)rest, blocks(sound), (unsigned long)sound);
-            return refused(answer, NULL);
-        }
-    }
+    if (*rest < VICHRELKA_BLOCK_LEN)
+        return ACCEPTED;
+    answer = vichrelka_book_replay(table, sizeof table, book, *sound + VICHRELKA_BLOCK_LEN);
+    if (*rest == VICHRELKA_BLOCK_LEN && vichrelka_refusal(answer) == VICHRELKA_REFUSED_WRONG_CHECK)
+        return ACCEPTED;
+    printf("NOT REPLAYED, nothing cut off: %lu bytes are behind the %u sound blocks, and no write that was cut leaves them; a person has to "
+           "decide: fetch the book again, or go on from the first %lu bytes of it in another file: ",
+           (unsigned long)*rest, blocks(*sound), (unsigned long)*sound);
+    return refused(answer, NULL);
+}
+
+/* A restart: book and reverse side as they are stored, without what was cut off, and then an ended lease that was kept, before anything else. */
+static enum status do_book(struct gateway *g, char **words)
+{
+    static uint8_t book[BOOK_LIMIT + 1], reverse[VICHRELKA_REVERSE_LEN]; /* one byte more, so that what is too long still is */
+    struct lease ended;
+    enum content is_there, is_ended;
+    size_t sound, rest;
+    enum status status = read_book(words[1], book, &sound, &rest), again = ACCEPTED;
+    const char *complaint = status != ACCEPTED ? NULL : read_sides(words[1], reverse, &is_there, &ended, &is_ended);
+    uint64_t answer;
+
+    if (status != ACCEPTED)
+        return status;
+    if (complaint != NULL)
+        return say(REFUSED, complaint);
     if (rest > 0 && truncate(words[1], (off_t)sound) != 0)
         return say(TROUBLE, "NOT REPLAYED: the end cannot be cut off; look whether the file may be written");
     answer = vichrelka_book_replay(g->table, sizeof g->table, book, sound);
     if (vichrelka_refusal(answer) != 0)
         return refused(answer, NULL);
     keep(g, words[1], book, sound);
+    memcpy(g->reverse, reverse, sizeof g->reverse);
+    g->is_reverse_changed = g->has_ended = g->is_off = 0;
     printf("blocks: %u, names: %u", blocks(sound), (unsigned)vichrelka_value(vichrelka_table_count(g->table, sizeof g->table)));
     if (rest > 0)
         printf("; CUT OFF: %lu bytes, of a write that was cut or of a block that was damaged later: a client may have been told of that step",
                (unsigned long)rest);
+    if (is_there == ABSENT)
+        printf("; NO REVERSE SIDE is beside it: it begins empty, `renew-reverse` makes it of the table");
     print_room(g);
-    return rest > 0 ? REFUSED : ACCEPTED;
+    if (is_ended == WHOLE)
+        again = end_again(g, &ended);
+    return rest > 0 && again == ACCEPTED ? REFUSED : again;
 }
 
-/* The tidied book into a file, then on from there. The file has it whole or not at all, and both books replay to the same table. */
+/* The same book again, as after a power cut. */
+static enum status do_restart(struct gateway *g, char **words)
+{
+    (void)words;
+    if (g->path[0] == '\0')
+        return say(TROUBLE, NO_BOOK);
+    return do_book(g, (char *[]){NULL, g->path});
+}
+
+/* Where the power fails in the next request or release. */
+static enum status do_cut(struct gateway *g, char **words)
+{
+    static const char *const PLACES[] = {
+        [BEFORE] = "before", [BETWEEN] = "between", [AFTER] = "after", [IN_BLOCK] = "in-block", [IN_REVERSE] = "in-reverse"};
+    unsigned long bytes = 0;
+    int place = IN_REVERSE, has_bytes;
+    char more;
+
+    if (g->path[0] == '\0')
+        return say(TROUBLE, NO_BOOK);
+    while (place > NOWHERE && strcmp(words[1], PLACES[place]) != 0)
+        place--;
+    has_bytes = place == IN_BLOCK || place == IN_REVERSE;
+    if (place == NOWHERE || has_bytes != (words[2] != NULL) || (has_bytes && sscanf(words[2], "%9lu%c", &bytes, &more) != 1) ||
+        bytes > (place == IN_BLOCK ? VICHRELKA_BLOCK_LEN : VICHRELKA_REVERSE_LEN))
+        return say(TROUBLE, "no such place: there are before, between, after, in-block N (0 to 512) and in-reverse N (0 to 34944)");
+    g->next_cut = (enum place)place;
+    g->cut_bytes = bytes;
+    return say(ACCEPTED, "done");
+}
+
+/*
+ * The tidied book into a file, then on from there, with the reverse side beside it. The file has it whole or not at all, and both books
+ * replay to the same table. What was NOT STORED is stored with it, in its order.
+ */
 static enum status do_tidy(struct gateway *g, char **words)
 {
     static uint8_t tidied[VICHRELKA_TIDIED_LIMIT];
@@ -514,12 +946,19 @@ static enum status do_tidy(struct gateway *g, char **words)
     size_t len = vichrelka_value(answer);
 
     if (g->path[0] == '\0')
-        return say(TROUBLE, "no book is kept: say `book FILE` to go on from one, or `new FILE` to begin one");
+        return say(TROUBLE, NO_BOOK);
     if (vichrelka_refusal(answer) != 0)
         return refused(answer, NULL);
-    if (!save(words[1], "", tidied, len))
+    if (strcmp(words[1], g->path) != 0) {
+        if (!replace(words[1], g->reverse, tidied, len))
+            return say(TROUBLE, NOT_WRITTEN);
+        g->is_reverse_changed = g->has_ended = 0;
+    } else if ((g->is_reverse_first && !store_reverse(g)) || !save(words[1], "", tidied, len)) {
         return say(TROUBLE, NOT_WRITTEN);
+    }
     keep(g, words[1], tidied, len);
+    if (!store(g))
+        return say(TROUBLE, NOT_WRITTEN);
     printf("blocks: %u, they were %u\n", blocks(len), before);
     return ACCEPTED;
 }
@@ -558,7 +997,7 @@ static enum status do_load(struct gateway *g, char **words)
     answer = vichrelka_table_load(table, sizeof table, text, len);
     if (vichrelka_refusal(answer) != 0)
         return refused(answer, NULL);
-    if (!begin(g, table, g->path))
+    if (!begin(g, table, NULL, g->path))
         return say(TROUBLE, "NOT LOADED: the fresh book is not written; look whether the folder of the book may be written and has room");
     printf("records: %ld, ", records);
     if (!is_whole)
@@ -573,10 +1012,18 @@ static const struct command {
     const char *name;
     int words; /* with the name */
     enum status (*run)(struct gateway *, char **words);
-} COMMANDS[] = {{"request", 4, do_lease}, {"release", 4, do_lease}, {"clear", 2, do_clear},      {"clear-without-address", 1, do_clear_without_address},
-                {"find", 2, do_find},     {"count", 1, do_count},   {"write", 2, do_write},      {"show", 1, do_write},
-                {"load", 2, do_load},     {"new", 1, do_new},       {"load-anyway", 2, do_load}, {"site", 2, do_set},
-                {"set", 2, do_set},       {"new", 2, do_new},       {"book", 2, do_book},        {"tidy", 2, do_tidy}};
+} COMMANDS[] = {{"request", 4, do_lease},    {"release", 4, do_lease}, {"clear", 2, do_clear}, {"clear-without-address", 1, do_clear_without_address},
+                {"find", 2, do_find},        {"count", 1, do_count},   {"write", 2, do_write}, {"show", 1, do_write},
+                {"load", 2, do_load},        {"new", 1, do_new},       {"new", 2, do_new},     {"load-anyway", 2, do_load},
+                {"site", 2, do_set},         {"set", 2, do_set},       {"book", 2, do_book},   {"show-reverse", 1, do_show_reverse},
+                {"restart", 1, do_restart},  {"cut", 2, do_cut},       {"cut", 3, do_cut},     {"renew-reverse", 1, do_renew_reverse},
+                {"tidy", 2, do_tidy}};
+
+/* Without power there is nothing but a restart, and what is to be tried there. */
+static int is_without_power(const struct command *command)
+{
+    return command->run == do_restart || command->run == do_book || command->run == do_cut;
+}
 
 /* One line: a comment is said again, to go with the answers; of a command, what was asked and what came of it. */
 static enum status obey(struct gateway *g, char *line)
@@ -595,7 +1042,7 @@ static enum status obey(struct gateway *g, char *line)
         printf("%s%s", words[i], i + 1 < count ? " " : ": ");
     for (c = 0; c < sizeof COMMANDS / sizeof *COMMANDS; c++)
         if (strcmp(words[0], COMMANDS[c].name) == 0 && COMMANDS[c].words == count)
-            return COMMANDS[c].run(g, words);
+            return g->is_off && !is_without_power(&COMMANDS[c]) ? say(TROUBLE, "NOT DONE: the power is off; say `restart`") : COMMANDS[c].run(g, words);
     return say(TROUBLE, "no such command, or not with so many words; README.md has them all");
 }
 

@@ -32,9 +32,9 @@ use Rattle.leases.proofs.PlanLaws.{
   refused-stays,
   lease-between,
   lease-has-address,
+  lease-behind,
   lease-names,
   lease-others,
-  lease-elsewhere,
   second-lease-refused,
   second-lease-held,
   Ending,
@@ -46,9 +46,9 @@ use Rattle.leases.proofs.PlanLaws.{
   end-between,
   end-mends,
   end-names,
+  end-leaves,
   end-not-behind,
   end-others,
-  end-elsewhere,
   second-end-refused,
   second-end-between,
   SecondAnswer,
@@ -149,6 +149,17 @@ module _ (limit places : ℕ) (b c name dhcid : List ℕ) (family : ℕ) (addres
       let kept = lease-mendable limit places name dhcid family address policy .stays-sound b c hold t u (suc k) in
       let same = one-sound-table limit b₁ s (table-sound kept e) in
       (l .0, ap (find (canonical name)) same ∙ l .1, l .2)
+
+  -- after both steps the name is behind the address
+  pub lease-puts : (k : ℕ) (b₁ c₁ : List ℕ) (r : Answer) (v : ℕ) (b₀ c₀ : List ℕ) → Leases limit places b c name dhcid family address policy r b₀ c₀ → r ≡ Accepted v
+      → LeaseCut limit places name dhcid family address policy (suc (suc k)) b c b₁ c₁ → (u₁ : SoundReverse places c₁) → behind (familyOf family) address (u₁ .names) ≡ some (canonical name)
+  unfolding Leases LeaseCut
+  lease-puts k b₁ c₁ r v b₀ c₀ (inl f) a cut u₁ = absurd (accepted≢refused (sym a ∙ f .answer))
+  lease-puts k b₁ c₁ r v b₀ c₀ (inr g) a (CutOff.faulty n fault e e′) u₁ = absurd (no-fault (leaseTests limit places b c name dhcid family address policy) n (g .all-hold) fault)
+  lease-puts k b₁ c₁ r v b₀ c₀ (inr g) a (CutOff.planned hold t u e e′) u₁ =
+      let w = was-planned limit places (leaseTests limit places b c name dhcid family address policy) b c _ r b₀ c₀ (inr g) hold t u in
+      let kept = lease-mendable limit places name dhcid family address policy .stays-sound b c hold t u (suc (suc k)) in
+      ap (behind (familyOf family) address) (reverse-names kept e′ u₁) ∙ lease-behind limit places (canonical name) dhcid (familyOf family) address policy (sidesOf t u) v k (sym (w .0) ∙ a)
 
   -- every other address keeps its entry, and they their order, wherever the run was cut
   pub lease-keeps-others : (k : ℕ) (b₁ c₁ : List ℕ) → LeaseCut limit places name dhcid family address policy k b c b₁ c₁ → (u : SoundReverse places c) (u₁ : SoundReverse places c₁)
@@ -274,6 +285,16 @@ module _ (limit places : ℕ) (b c name dhcid : List ℕ) (family : ℕ) (addres
       let kept = end-mendable limit places name dhcid family address .stays-sound b c hold t u (suc k) in
       end-not-behind (canonical name) dhcid (familyOf family) address (sidesOf t u) (u .single) v k (sym (w .0) ∙ a)
       (ap (behind (familyOf family) address) (sym (reverse-names kept e′ u₁)) ∙ there)
+
+  -- where another name is behind the address, or none, the reverse side stays as it is, wherever the run was cut
+  pub end-keeps-another : (k : ℕ) (b₁ c₁ : List ℕ) → EndCut limit places name dhcid family address k b c b₁ c₁ → (u : SoundReverse places c)
+      → (behind (familyOf family) address (u .names) ≡ some (canonical name) → ⊥) → c₁ ≡ c
+  unfolding EndCut
+  end-keeps-another k b₁ c₁ (CutOff.faulty n fault e e′) u other = e′
+  end-keeps-another k b₁ c₁ (CutOff.planned hold t w e e′) u other =
+      let same = one-sound-reverse places c w u in
+      e′ ∙ ap (reverseBytes places) (end-leaves (canonical name) dhcid (familyOf family) address (sidesOf t w) k (λ there. other (ap (behind (familyOf family) address) (sym same) ∙ there)))
+      ∙ sym (form-of places c w)
 
   pub end-keeps-others : (k : ℕ) (b₁ c₁ : List ℕ) → EndCut limit places name dhcid family address k b c b₁ c₁ → (u : SoundReverse places c) (u₁ : SoundReverse places c₁)
       → othersAt (familyOf family) address (u₁ .names) ≡ othersAt (familyOf family) address (u .names)

@@ -16,8 +16,8 @@ use Rattle.slots.specs.Entry.{names as namesOf}
 use Rattle.slots.specs.Form.{TableEntry}
 use Rattle.slots.specs.declared.Family.{Family}
 use Rattle.table.specs.Steps.{StepOutcome, find, add, remove, acceptedWith, refusedWith}
-use Rattle.reverse.specs.Entry.{ReverseEntry, isAt, entryAt, behind, hasPlace, placed, taken, othersAt, Single}
-use Rattle.reverse.proofs.EntryLaws.{placed-again, placed-place, placed-behind, placed-others, placed-elsewhere, single-placed, room-placed, taken-again, taken-behind, taken-others, taken-elsewhere, single-taken, length-taken}
+use Rattle.reverse.specs.Entry.{ReverseEntry, behind, hasPlace, placed, taken, othersAt, Single}
+use Rattle.reverse.proofs.EntryLaws.{placed-again, placed-place, placed-behind, placed-others, single-placed, room-placed, taken-again, taken-behind, taken-kept, taken-others, single-taken, length-taken}
 use Rattle.leases.specs.Plan.{Sides, Write, Plan, writtenFirst, writtenAll, after, uncut, refusedPlan, leaseBy, endBy, leasePlan, endPlan}
 use Rattle.leases.proofs.AddLaws.{Holds, holds-address, add-holder, Added, added}
 use Rattle.leases.proofs.RemovalLaws.{Afterwards, Removed, removal}
@@ -45,7 +45,7 @@ module _ (limit places : ℕ) (n d : List ℕ) (f : Family) (x : List ℕ) (poli
 
   pub lease-full : (s : Sides) → hasPlace places f x (s .names) ≡ false → leasePlan limit places n d f x policy s ≡ refusedPlan reverseFull
   unfolding leasePlan
-  lease-full s has = ap (λ (b : Bool). cond b (leaseBy (add limit eqBytes (s .table) n d f x policy) (placed f x n (s .names))) (refusedPlan reverseFull)) has
+  lease-full s has = rw has
 
   -- the forward step is add's, where the address has a place
   pub lease-forward : (s : Sides) → hasPlace places f x (s .names) ≡ true
@@ -176,6 +176,14 @@ module _ (limit places : ℕ) (n d : List ℕ) (f : Family) (x : List ℕ) (poli
       go (Leasing.refused m e) j = absurd (accepted≢refused (sym a ∙ ap (λ (p : Plan). p .answer) e))
       go (Leasing.accepted w u has b h e) zero = (h .entry, ap (λ (y : Sides). find n (y .table)) (lease-first s w u e) ∙ h .found, holds-address u n d f x h)
       go (Leasing.accepted w u has b h e) (suc j) = (h .entry, ap (λ (y : Sides). find n (y .table)) (lease-both s w u e j) ∙ h .found, holds-address u n d f x h)
+
+  -- and once both steps are done the name is behind the address
+  pub lease-behind : (s : Sides) (v k : ℕ) → leasePlan limit places n d f x policy s .answer ≡ Accepted v → behind f x (after (suc (suc k)) (leasePlan limit places n d f x policy s) s .names) ≡ some n
+  lease-behind s v k a = go (leasing s)
+    where
+      go : Leasing s → behind f x (after (suc (suc k)) (leasePlan limit places n d f x policy s) s .names) ≡ some n
+      go (Leasing.refused m e) = absurd (accepted≢refused (sym a ∙ ap (λ (p : Plan). p .answer) e))
+      go (Leasing.accepted w u has b h e) = ap (λ (y : Sides). behind f x (y .names)) (lease-both s w u e k) ∙ placed-behind f x n (s .names)
 
 -- ==== an ended lease
 
@@ -371,7 +379,15 @@ module _ (n d : List ℕ) (f : Family) (x : List ℕ) (s : Sides) where
       go (Ending.accepted u b e after-it) (suc zero) = EndNames.out (ap (λ (w : Sides). w .names) (end-first n d f x s u e))
       go (Ending.accepted u b e after-it) (suc (suc j)) = EndNames.out (ap (λ (w : Sides). w .names) (end-both n d f x s u e j))
 
--- the entries of every other address, whole and in order; and the name behind each other address
+  -- where the name is not behind the address, the names stay
+  pub end-leaves : (k : ℕ) → (behind f x (s .names) ≡ some n → ⊥) → after k (endPlan n d f x s) s .names ≡ s .names
+  end-leaves k other = go (end-names k)
+    where
+      go : EndNames f x n (s .names) (after k (endPlan n d f x s) s .names) → after k (endPlan n d f x s) s .names ≡ s .names
+      go (EndNames.same e) = e
+      go (EndNames.out e) = e ∙ taken-kept f x n (s .names) other
+
+-- the entries of every other address, whole and in order
 module _ (f : Family) (x n : List ℕ) (rs us : List ReverseEntry) where
   pub lease-others : LeaseNames f x n rs us → othersAt f x us ≡ othersAt f x rs
   lease-others (LeaseNames.same e) = ap (othersAt f x) e
@@ -380,15 +396,6 @@ module _ (f : Family) (x n : List ℕ) (rs us : List ReverseEntry) where
   pub end-others : EndNames f x n rs us → othersAt f x us ≡ othersAt f x rs
   end-others (EndNames.same e) = ap (othersAt f x) e
   end-others (EndNames.out e) = ap (othersAt f x) e ∙ taken-others f x n rs
-
-  module _ (g : Family) (y : List ℕ) (apart : isAt g y (entryAt f x []) ≡ false) where
-    pub lease-elsewhere : LeaseNames f x n rs us → behind g y us ≡ behind g y rs
-    lease-elsewhere (LeaseNames.same e) = ap (behind g y) e
-    lease-elsewhere (LeaseNames.put e) = ap (behind g y) e ∙ placed-elsewhere f g x y n apart rs
-
-    pub end-elsewhere : EndNames f x n rs us → behind g y us ≡ behind g y rs
-    end-elsewhere (EndNames.same e) = ap (behind g y) e
-    end-elsewhere (EndNames.out e) = ap (behind g y) e ∙ taken-elsewhere f g x y n apart rs
 
   -- and no address comes to stand twice
   pub lease-single : LeaseNames f x n rs us → Single rs → Single us

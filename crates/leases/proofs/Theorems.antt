@@ -27,7 +27,7 @@ use Rattle.leases.specs.Calls.{leaseTests, Leases, Ends}
 use Rattle.leases.specs.Cuts.{LeaseCut, LeaseCuts, SecondLease, EndCut, EndCuts, SecondEnd, Stored}
 use Rattle.leases.proofs.LeaseLaws.{lease-adds, end-removes}
 use Rattle.leases.proofs.CallLaws.{one-leased, unleased, leases-often, leased-sound, one-ended, unended, ends-often, ended-sound}
-use Rattle.leases.proofs.AgainLaws.{lease-both-stored, lease-again, lease-one-step, lease-gives, lease-keeps-others, end-both-stored, end-again, end-one-step, end-takes, end-keeps-others}
+use Rattle.leases.proofs.AgainLaws.{lease-both-stored, lease-again, lease-one-step, lease-gives, lease-puts, lease-keeps-others, end-both-stored, end-again, end-one-step, end-takes, end-keeps-another, end-keeps-others}
 use Rattle.leases.proofs.StoredLaws.{stored-add, stored-remove}
 
 -- ---- a lease
@@ -85,6 +85,11 @@ module _ (limit places : ℕ) (b c name dhcid : List ℕ) (family : ℕ) (addres
           → (e : TableEntry) × (find (canonical name) (s .table) ≡ some e) × (addressOf (familyOf family) e ≡ some address)
       has-address-lease k b₁ c₁ cut s = lease-gives limit places b c name dhcid family address policy k b₁ c₁ r v b₀ c₀ whole accepted cut s
 
+      -- and after both the name is behind the address
+      pub behind-lease : (k : ℕ) (b₁ c₁ : List ℕ) → LeaseCut limit places name dhcid family address policy (suc (suc k)) b c b₁ c₁ → (u₁ : SoundReverse places c₁)
+          → behind (familyOf family) address (u₁ .names) ≡ some (canonical name)
+      behind-lease k b₁ c₁ cut u₁ = lease-puts limit places b c name dhcid family address policy k b₁ c₁ r v b₀ c₀ whole accepted cut u₁
+
 -- ---- an ended lease
 
 module _ (limit places : ℕ) (b c name dhcid : List ℕ) (family : ℕ) (address : List ℕ) where
@@ -108,6 +113,11 @@ module _ (limit places : ℕ) (b c name dhcid : List ℕ) (family : ℕ) (addres
   pub others-end : (k : ℕ) (b₁ c₁ : List ℕ) → EndCut limit places name dhcid family address k b c b₁ c₁ → (u : SoundReverse places c) (u₁ : SoundReverse places c₁)
       → othersAt (familyOf family) address (u₁ .names) ≡ othersAt (familyOf family) address (u .names)
   others-end k b₁ c₁ cut u u₁ = end-keeps-others limit places b c name dhcid family address k b₁ c₁ cut u u₁
+
+  -- a reverse name goes only if it is this client's name: where another is behind the address, or none, every byte of the reverse side stays
+  pub kept-end : (k : ℕ) (b₁ c₁ : List ℕ) → EndCut limit places name dhcid family address k b c b₁ c₁ → (u : SoundReverse places c)
+      → (behind (familyOf family) address (u .names) ≡ some (canonical name) → ⊥) → c₁ ≡ c
+  kept-end k b₁ c₁ cut u other = end-keeps-another limit places b c name dhcid family address k b₁ c₁ cut u other
 
   module _ (r : Answer) (b₀ c₀ : List ℕ) (whole : Ends limit places b c name dhcid family address r b₀ c₀) where
     -- the answer by the table that the uncut run leaves, which is sound if there is anything to answer 33 or 34 about

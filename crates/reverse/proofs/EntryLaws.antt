@@ -40,11 +40,6 @@ pub at-address : (f : Family) (x : List ℕ) (r : ReverseEntry) → isAt f x r �
 unfolding isAt
 at-address f x r e = eqBytes-true (r .address) x (and-right (sameFamily (r .family) f) (eqBytes (r .address) x) e)
 
--- two addresses apart: no entry is at both
-apart-entry : (f g : Family) (x y : List ℕ) (r : ReverseEntry) → isAt f x r ≡ true → isAt g y r ≡ isAt g y (entryAt f x [])
-unfolding isAt
-apart-entry f g x y r e = ap₂ (λ (h : Family) (z : List ℕ). sameFamily h g && eqBytes z y) (at-family f x r e) (at-address f x r e)
-
 module _ (f : Family) (x n : List ℕ) (r : ReverseEntry) (rs : List ReverseEntry) where
   pub placed-here : isAt f x r ≡ true → placed f x n (r ∷ rs) ≡ entryAt f x n ∷ rs
   unfolding placed
@@ -122,7 +117,7 @@ module _ (f : Family) (x n : List ℕ) where
   -- an address that has been placed has a place
   pub placed-place : (limit : ℕ) (rs : List ReverseEntry) → hasPlace limit f x (placed f x n rs) ≡ true
   unfolding hasPlace
-  placed-place limit rs = ap (λ (b : Bool). b || ltb (length (placed f x n rs)) limit) (placed-stands rs)
+  placed-place limit rs = rw (placed-stands rs)
 
   -- the name is behind the address
   pub placed-behind : (rs : List ReverseEntry) → behind f x (placed f x n rs) ≡ some n
@@ -200,6 +195,15 @@ module _ (f : Family) (x n : List ℕ) where
       (λ other c. true≢false (sym (eq-eqBytes (r .name) n (Option·some-injective (r .name) n (sym (behind-here f x r rs e) ∙ c))) ∙ other)) b)
       (λ e. ih (sym (ap (behind f x) (taken-later f x n r rs e) ∙ behind-later f x r (taken f x n rs) e) ∙ b))
 
+  -- and where it was not, nothing is taken
+  pub taken-kept : (rs : List ReverseEntry) → (behind f x rs ≡ some n → ⊥) → taken f x n rs ≡ rs
+  taken-kept [] other = taken-none
+  taken-kept (r ∷ rs) other =
+      let ih = taken-kept rs in
+      by-at f x r
+      (λ e. by-behind (λ (l : List ReverseEntry). l ≡ r ∷ rs) r rs e (λ same. absurd (other (behind-here f x r rs e ∙ ap some (eqBytes-true (r .name) n same)))) (λ different. refl))
+      (λ e. taken-later f x n r rs e ∙ ap (_∷_ r) (ih (λ b. other (behind-later f x r rs e ∙ b))))
+
   pub taken-others : (rs : List ReverseEntry) → othersAt f x (taken f x n rs) ≡ othersAt f x rs
   taken-others [] = ap (othersAt f x) taken-none
   taken-others (r ∷ rs) =
@@ -275,32 +279,3 @@ module _ (f : Family) (x n : List ℕ) where
       go : (b : Bool) → standsAt f x rs ≡ b → (b || ltb (length rs) limit) ≡ true → length (placed f x n rs) ≤ limit
       go true s h = omega (arith, length-replaced rs s, room)
       go false s h = omega (arith, length-placed rs, ltb-true (length rs) limit h)
-
--- ---- no other address's name changes
-
-module _ (f g : Family) (x y n : List ℕ) (apart : isAt g y (entryAt f x []) ≡ false) where
-  not-this : (r : ReverseEntry) → isAt f x r ≡ true → isAt g y r ≡ false
-  not-this r e = apart-entry f g x y r e ∙ apart
-
-  new-not-this : isAt g y (entryAt f x n) ≡ false
-  new-not-this = not-this (entryAt f x n) (at-itself f x n)
-
-  behind-more : (r : ReverseEntry) (l m : List ReverseEntry) → behind g y l ≡ behind g y m → behind g y (r ∷ l) ≡ behind g y (r ∷ m)
-  unfolding behind
-  behind-more r l m e = ap (cond (isAt g y r) (some (r .name))) e
-
-  pub placed-elsewhere : (rs : List ReverseEntry) → behind g y (placed f x n rs) ≡ behind g y rs
-  placed-elsewhere [] = ap (behind g y) (placed-none f x n) ∙ behind-later g y (entryAt f x n) [] new-not-this
-  placed-elsewhere (r ∷ rs) =
-      let ih = placed-elsewhere rs in
-      by-at f x r
-      (λ e. ap (behind g y) (placed-here f x n r rs e) ∙ behind-later g y (entryAt f x n) rs new-not-this ∙ sym (behind-later g y r rs (not-this r e)))
-      (λ e. ap (behind g y) (placed-later f x n r rs e) ∙ behind-more r (placed f x n rs) rs ih)
-
-  pub taken-elsewhere : (rs : List ReverseEntry) → behind g y (taken f x n rs) ≡ behind g y rs
-  taken-elsewhere [] = ap (behind g y) (taken-none f x n)
-  taken-elsewhere (r ∷ rs) =
-      let ih = taken-elsewhere rs in
-      by-at f x r
-      (λ e. by-behind f x n (λ (l : List ReverseEntry). behind g y l ≡ behind g y (r ∷ rs)) r rs e (λ same. sym (behind-later g y r rs (not-this r e))) (λ other. refl))
-      (λ e. ap (behind g y) (taken-later f x n r rs e) ∙ behind-more r (taken f x n rs) rs ih)
