@@ -643,18 +643,20 @@ uint64_t vichrelka_ptr_name(uint32_t family, const uint8_t *address, size_t addr
  *
  * After a power cut. A call works on your memory, and what was only there is gone. What outlasts a cut is what you
  * stored, so store in the same order: for a lease the table's change first and then the reverse side, for its end the
- * reverse side first and then the table's change, each whole (the table's change as a block of the book; the reverse
- * side under another name, then renamed). A cut then leaves the state before the call, that between the two steps, or
- * that after it. Run the same call again on what you read back, before any other call on these two sides, and it ends
- * in the state of an uncut run, both sides, however often it is cut:
+ * reverse side first and then the table's change, each whole and on the disk before the next (the table's change as a
+ * block of the book; the reverse side under another name, then renamed). If the second could not be stored, do no other
+ * step on these two sides before it is. A cut then leaves the state before the call, between the two steps, or after
+ * it. Run the same call again on what you read back, before any other call on these two sides, and it ends in the state
+ * of an uncut run, both sides, however often it is cut:
  *
  *     a lease      The client asks again, since you tell it only when both are stored. Keep its request if other calls
  *                  may come first. The second run answers 1 where an uncut one answers 0 or 2, once a step was stored.
- *     its end      Nobody asks again: keep it until both are stored, and run it after a restart. The second run answers
- *                  0; or 33 or 34 if both had been stored. Take these as done then.
+ *     its end      Nobody asks again: keep it, from before the call until both are stored, and run it after a restart.
+ *                  The second run answers 0; or 33 or 34 if both had been stored. Take these as done then.
  *
- * Do not lend memory that keeps its bytes without power: a call may be cut in the middle of a slot there.
- * docs/POWER.md goes through all the cuts.
+ * To ask whether stored bytes are a sound table and a sound reverse side, end a lease of a name of no bytes: it is 40
+ * if one of them is not, and 9 if both are. Do not lend memory that keeps its bytes without power: a call may be cut in
+ * the middle of a slot there. docs/POWER.md goes through all the cuts.
  *
  * If a lease is refused with 46, too many reverse names of former addresses, of takeovers and of cleared names are
  * there. Make room: take a new reverse side (zeros), and for each address in the table run the lease of its name again,
