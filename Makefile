@@ -15,7 +15,7 @@
 # installs what the package has, and does nothing else.
 
 # the header has it too, and says when which number goes up
-VERSION = 0.5.0
+VERSION = 0.6.0
 # the SPDX name of what LICENSE says; it goes into vichrelka.pc and into the installed header
 LICENSE_ID = LicenseRef-none-chosen
 
@@ -42,7 +42,7 @@ checkers = $(filter target/bin/listing_check target/bin/load_check,$(CHECKER) $(
 pages = $(filter target/%,$(PAGES)/vichrelka.3)
 
 # what the header and the manual pages cite
-documents = docs/PROMISES.md docs/REFUSALS.md docs/RULES.md docs/TRUST.md
+documents = docs/POWER.md docs/PROMISES.md docs/REFUSALS.md docs/RULES.md docs/TRUST.md
 
 # Recipes take these from the environment: so a path may have blanks and quotes in it.
 export VERSION LICENSE_ID PREFIX INCLUDEDIR LIBDIR MANDIR DESTDIR ARCHIVE CHECKER LOADER PAGES V

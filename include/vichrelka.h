@@ -661,7 +661,8 @@ uint64_t vichrelka_ptr_name(uint32_t family, const uint8_t *address, size_t addr
  * If a lease is refused with 46, too many reverse names of former addresses, of takeovers and of cleared names are
  * there. Make room: take a new reverse side (zeros), and for each address in the table run the lease of its name again,
  * with copies of the name, the DHCID and the address that are in the slot. Each answers 1 and leaves the table as it
- * is. (A name that is kept by hand has no lease; its address has no reverse name here.)
+ * is. (A name that is kept by hand has no lease; its address has no reverse name here.) If every name has both an A and
+ * an AAAA, that does not help: end a lease first, the client's former one or one that is over.
  */
 
 /*

@@ -64,6 +64,7 @@ unpacked=$scratch/vichrelka-$version
 644 ./README.md
 644 ./SECURITY.md
 644 ./SHA256SUMS
+644 ./docs/POWER.md
 644 ./docs/PROMISES.md
 644 ./docs/REFUSALS.md
 644 ./docs/RULES.md

@@ -20,6 +20,9 @@
 #define ARGUMENTS_vichrelka_book_replay (lent, 1, lent, 1)
 #define ARGUMENTS_vichrelka_book_tidy (lent, 1, lent, 1)
 #define ARGUMENTS_vichrelka_book_sound (lent, 1)
+#define ARGUMENTS_vichrelka_ptr_name (4, lent, 1, lent, 1)
+#define ARGUMENTS_vichrelka_lease (lent, 1, lent, 1, lent, 1, lent, 1, 4, lent, 1, VICHRELKA_FIRST_WINS)
+#define ARGUMENTS_vichrelka_lease_end (lent, 1, lent, 1, lent, 1, lent, 1, 4, lent, 1)
 #define ARGUMENTS_OF(call) ARGUMENTS_##call
 #define ARGUMENTS(call) ARGUMENTS_OF(call)
 

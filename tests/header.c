@@ -71,6 +71,10 @@ static int wrong_numbers(void)
     wrong |= VICHRELKA_NAME_TEXT_LIMIT != 254;
     wrong |= VICHRELKA_REFUSED_WRONG_CHECK != 42 || VICHRELKA_REFUSED_WRONG_FIELD != 43 || VICHRELKA_REFUSED_BLOCK_LENGTH != 44;
     wrong |= VICHRELKA_BLOCK_LEN != 512 || VICHRELKA_TIDIED_LIMIT != 32768;
+    wrong |= VICHRELKA_REFUSED_REVERSE_FULL != 46 || VICHRELKA_REVERSE_NAMES != 128 || VICHRELKA_REVERSE_SLOT_LEN != 273 || VICHRELKA_REVERSE_LEN != 34944;
+    wrong |= VICHRELKA_REVERSE_ADDRESS != 1 || VICHRELKA_REVERSE_NAME_LEN != VICHRELKA_REVERSE_ADDRESS + 16;
+    wrong |= VICHRELKA_REVERSE_NAME != VICHRELKA_REVERSE_NAME_LEN + 1 || VICHRELKA_REVERSE_NAME + VICHRELKA_NAME_LIMIT != VICHRELKA_REVERSE_SLOT_LEN;
+    wrong |= VICHRELKA_PTR_LIMIT != 74;
 
     wrong |= vichrelka_name_source(chosen) != 1 || vichrelka_name_start(chosen) != 300 || vichrelka_name_len(chosen) != 18;
     wrong |= vichrelka_name_source(accepted) != 3 || vichrelka_name_start(accepted) != 0x3fffff || vichrelka_name_len(accepted) != 255;
@@ -84,7 +88,7 @@ static int says(uint32_t number, const char *words)
     return strcmp(vichrelka_refusal_text(number), words) == 0;
 }
 
-/* Every number has a text, and no two refusals have the same. 10, 18, 19, 23, 25 and 41 are no refusals of a call for C. */
+/* Every number has a text, and no two refusals have the same. 10, 18, 19, 23, 25, 41 and 45 are no refusals of a call for C. */
 static int wrong_texts(void)
 {
     uint32_t number, other;
@@ -95,9 +99,11 @@ static int wrong_texts(void)
         for (other = 0; other < number; other++)
             wrong |= !says(number, "unknown refusal") && says(number, vichrelka_refusal_text(other));
     }
-    wrong |= known != 31 || !says(0, "accepted") || !says(VICHRELKA_REFUSED_HELD_BY_ANOTHER, "another client holds the name");
+    wrong |= known != 32 || !says(0, "accepted") || !says(VICHRELKA_REFUSED_HELD_BY_ANOTHER, "another client holds the name");
     wrong |= !says(10, "unknown refusal") || !says(18, "unknown refusal") || !says(19, "unknown refusal") || !says(23, "unknown refusal");
-    wrong |= !says(25, "unknown refusal") || !says(41, "unknown refusal") || !says(0xffffffffu, "unknown refusal");
+    wrong |= !says(25, "unknown refusal") || !says(41, "unknown refusal") || !says(45, "unknown refusal") || !says(0xffffffffu, "unknown refusal");
+    wrong |= !says(VICHRELKA_REFUSED_TABLE_NOT_SOUND, "a table or reverse side is not sound, or a book has too many names");
+    wrong |= !says(VICHRELKA_REFUSED_REVERSE_FULL, "the reverse side has no room for another address");
     return wrong;
 }
 
@@ -254,6 +260,124 @@ static int wrong_books(void)
     return wrong;
 }
 
+/* Document 02, K7: the PTR names of the header's two addresses, the first one byte for byte */
+static int wrong_ptr_names(void)
+{
+    static const uint8_t address[] = {192, 0, 2, 31}, address6[16] = {0x20, 1, 0xd, 0xb8, 0, 0, 0, 0, 0, 0, 0, 0, 0, 0, 0, 7};
+    static const char wire[] = "\00231\0012\0010\003192\007in-addr\004arpa";
+    static const char text[] = "7.0.0.0.0.0.0.0.0.0.0.0.0.0.0.0.0.0.0.0.0.0.0.0.8.b.d.0.1.0.0.2.ip6.arpa.";
+    uint8_t out[VICHRELKA_PTR_LIMIT], as_text[VICHRELKA_NAME_TEXT_LIMIT];
+    int wrong = sizeof wire != 25 || sizeof text - 1 != 73;
+
+    memset(out, 0x5a, sizeof out);
+    wrong |= vichrelka_ptr_name(VICHRELKA_IPV4, address, sizeof address, out, 24) != VICHRELKA_REFUSED_OUTPUT_SHORT || out[0] != 0x5a;
+    wrong |= vichrelka_ptr_name(VICHRELKA_IPV4, address, sizeof address, out, sizeof out) != (uint64_t)25 << 32;
+    wrong |= memcmp(out, wire, sizeof wire) != 0 || out[25] != 0x5a;
+    wrong |= vichrelka_ptr_name(VICHRELKA_IPV6, address6, sizeof address6, out, sizeof out - 1) != VICHRELKA_REFUSED_OUTPUT_SHORT;
+    wrong |= vichrelka_ptr_name(VICHRELKA_IPV6, address6, sizeof address6, out, sizeof out) != (uint64_t)74 << 32;
+    wrong |= vichrelka_name_to_text(out, sizeof out, as_text, sizeof as_text) != (uint64_t)73 << 32 || memcmp(as_text, text, 73) != 0;
+    wrong |= vichrelka_ptr_name(5, address, sizeof address, NULL, 0) != VICHRELKA_REFUSED_UNKNOWN_SETTING;
+    wrong |= vichrelka_ptr_name(VICHRELKA_IPV6, address, sizeof address, NULL, 0) != VICHRELKA_REFUSED_ADDRESS_LENGTH;
+    return wrong;
+}
+
+/* Both sides of the leases below */
+static uint8_t table_side[VICHRELKA_TABLE_LEN], reverse_side[VICHRELKA_REVERSE_LEN];
+static const uint8_t LEASED[] = {192, 0, 2, 7}, LEASED6[16] = {0x20, 1, 0xd, 0xb8};
+static const uint8_t CLIENT[VICHRELKA_DHCID_LEN] = {0, 1, 1}, ANOTHER[VICHRELKA_DHCID_LEN] = {0, 2, 1};
+
+static void empty_sides(void)
+{
+    memset(table_side, 0, sizeof table_side);
+    memset(reverse_side, 0, sizeof reverse_side);
+}
+
+static uint64_t lease(char letter, const uint8_t *client, uint32_t family, const uint8_t *address, uint32_t policy)
+{
+    const uint8_t name[] = {1, (uint8_t)letter, 0};
+
+    return vichrelka_lease(table_side, sizeof table_side, reverse_side, sizeof reverse_side, name, sizeof name, client, VICHRELKA_DHCID_LEN,
+                           family, address, family == 4 ? 4 : 16, policy);
+}
+
+static uint64_t lease_end(char letter, const uint8_t *client, uint32_t family, const uint8_t *address)
+{
+    const uint8_t name[] = {1, (uint8_t)letter, 0};
+
+    return vichrelka_lease_end(table_side, sizeof table_side, reverse_side, sizeof reverse_side, name, sizeof name, client, VICHRELKA_DHCID_LEN,
+                               family, address, family == 4 ? 4 : 16);
+}
+
+/* Whether a slot of the reverse side has this family and this letter's name; 0 and 0 for a slot of zeros */
+static int is_behind(size_t slot, uint8_t family, char letter)
+{
+    const uint8_t *bytes = reverse_side + slot * VICHRELKA_REVERSE_SLOT_LEN;
+
+    return bytes[0] == family && bytes[VICHRELKA_REVERSE_NAME_LEN] == (family == 0 ? 0 : 3) && bytes[VICHRELKA_REVERSE_NAME + 1] == (uint8_t)letter;
+}
+
+/* Document 02, K7: names behind addresses, which come, are replaced, stay and go */
+static int wrong_leases(void)
+{
+    int wrong = 0;
+
+    empty_sides();
+    wrong |= lease('A', CLIENT, 4, LEASED, VICHRELKA_FIRST_WINS) != 0 || table_side[0] != 3 || !is_behind(0, 4, 'a') || !is_behind(1, 0, 0);
+    wrong |= memcmp(reverse_side + VICHRELKA_REVERSE_ADDRESS, LEASED, sizeof LEASED) != 0;
+    wrong |= lease('a', CLIENT, 4, LEASED, VICHRELKA_FIRST_WINS) != (uint64_t)1 << 32 || !is_behind(0, 4, 'a');
+    wrong |= lease('a', ANOTHER, 6, LEASED6, VICHRELKA_FIRST_WINS) != VICHRELKA_REFUSED_HELD_BY_ANOTHER || !is_behind(1, 0, 0);
+    wrong |= lease('b', ANOTHER, 4, LEASED, VICHRELKA_FIRST_WINS) != 0 || !is_behind(0, 4, 'b') || !is_behind(1, 0, 0);
+    wrong |= lease('a', CLIENT, 6, LEASED6, VICHRELKA_FIRST_WINS) != (uint64_t)1 << 32 || !is_behind(0, 4, 'b') || !is_behind(1, 6, 'a');
+    wrong |= lease('b', CLIENT, 4, LEASED, VICHRELKA_LATEST_WINS) != (uint64_t)2 << 32 || !is_behind(0, 4, 'b');
+    wrong |= lease('a', CLIENT, 4, LEASED, 2) != VICHRELKA_REFUSED_UNKNOWN_SETTING || lease('.', CLIENT, 4, LEASED, 0) != VICHRELKA_REFUSED_NO_PROPER_NAME;
+
+    /* another's name is behind the address and stays; then it goes with its own end, and the next one moves up */
+    wrong |= lease_end('a', CLIENT, 4, LEASED) != 0 || !is_behind(0, 4, 'b') || !is_behind(1, 6, 'a');
+    wrong |= lease_end('a', CLIENT, 4, LEASED) != VICHRELKA_REFUSED_ADDRESS_DIFFERS;
+    wrong |= lease_end('b', ANOTHER, 4, LEASED) != VICHRELKA_REFUSED_HELD_BY_ANOTHER || !is_behind(0, 4, 'b');
+    wrong |= lease_end('B', CLIENT, 4, LEASED) != 0 || !is_behind(0, 6, 'a') || !is_behind(1, 0, 0);
+    wrong |= lease_end('b', CLIENT, 4, LEASED) != VICHRELKA_REFUSED_NAME_NOT_HELD;
+
+    /* a reverse side that is not sound, and a table */
+    reverse_side[VICHRELKA_REVERSE_LEN - 1] = 1;
+    wrong |= lease('a', CLIENT, 4, LEASED, 0) != VICHRELKA_REFUSED_TABLE_NOT_SOUND || lease_end('a', CLIENT, 6, LEASED6) != VICHRELKA_REFUSED_TABLE_NOT_SOUND;
+    reverse_side[VICHRELKA_REVERSE_LEN - 1] = 0;
+    table_side[VICHRELKA_TABLE_LEN - 1] = 1;
+    wrong |= lease('a', CLIENT, 4, LEASED, 0) != VICHRELKA_REFUSED_TABLE_NOT_SOUND || lease_end('a', CLIENT, 6, LEASED6) != VICHRELKA_REFUSED_TABLE_NOT_SOUND;
+    table_side[VICHRELKA_TABLE_LEN - 1] = 0;
+    return wrong;
+}
+
+/* Document 02, K7: a full reverse side, and a lease and its end that are cut between their two steps */
+static int wrong_full_and_cut(void)
+{
+    static uint8_t table[VICHRELKA_TABLE_LEN], reverse[VICHRELKA_REVERSE_LEN];
+    uint8_t address[] = {10, 0, 0, 0};
+    int wrong = 0;
+
+    empty_sides();
+    for (; address[3] < VICHRELKA_REVERSE_NAMES; address[3]++)
+        wrong |= lease('a', CLIENT, 4, address, VICHRELKA_FIRST_WINS) != (uint64_t)(address[3] > 0) << 32;
+    wrong |= lease('a', ANOTHER, 4, address, VICHRELKA_FIRST_WINS) != VICHRELKA_REFUSED_REVERSE_FULL || !is_behind(127, 4, 'a');
+    wrong |= lease_end('a', CLIENT, 4, address) != VICHRELKA_REFUSED_ADDRESS_DIFFERS;
+    address[3] = 127;
+
+    /* the end: its reverse step alone, and then the same again, and once more */
+    memcpy(table, table_side, sizeof table);
+    wrong |= lease_end('a', CLIENT, 4, address) != 0 || table_side[0] != 0 || !is_behind(126, 4, 'a') || !is_behind(127, 0, 0);
+    memcpy(table_side, table, sizeof table);
+    memcpy(reverse, reverse_side, sizeof reverse);
+    wrong |= lease_end('a', CLIENT, 4, address) != 0 || table_side[0] != 0 || memcmp(reverse, reverse_side, sizeof reverse) != 0;
+    wrong |= lease_end('a', CLIENT, 4, address) != VICHRELKA_REFUSED_NAME_NOT_HELD;
+
+    /* the lease: its forward step alone, and then the same again */
+    wrong |= lease('a', CLIENT, 4, address, VICHRELKA_FIRST_WINS) != 0 || !is_behind(127, 4, 'a') || memcmp(table, table_side, sizeof table) != 0;
+    memcpy(reverse_side, reverse, sizeof reverse);
+    wrong |= lease('a', CLIENT, 4, address, VICHRELKA_FIRST_WINS) != (uint64_t)1 << 32 || !is_behind(127, 4, 'a');
+    wrong |= memcmp(table, table_side, sizeof table) != 0;
+    return wrong;
+}
+
 /* An answer kept in an int, which no compiler warns of unasked: a refusal is still told, and a value is 0 at the first try. */
 static int wrong_slips(void)
 {
@@ -279,5 +403,5 @@ static int wrong_slips(void)
 int main(void)
 {
     return wrong_numbers() | wrong_texts() | wrong_names() | wrong_requests() | wrong_listings() | wrong_tables() | wrong_finds()
-           | wrong_tables_as_listings() | wrong_books() | wrong_slips();
+           | wrong_tables_as_listings() | wrong_books() | wrong_ptr_names() | wrong_leases() | wrong_full_and_cut() | wrong_slips();
 }

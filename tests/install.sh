@@ -50,6 +50,7 @@ mapfile -t functions < <(sed -n 's/^\(uint64_t\|static inline.*\) \**\(vichrelka
 755 ./libexec/vichrelka/load_check
 644 ./share/doc/vichrelka/CHANGELOG.md
 644 ./share/doc/vichrelka/LICENSE
+644 ./share/doc/vichrelka/POWER.md
 644 ./share/doc/vichrelka/PROMISES.md
 644 ./share/doc/vichrelka/REFUSALS.md
 644 ./share/doc/vichrelka/RULES.md

@@ -6,6 +6,7 @@
     calls      section 8.2 has the calls of the header
     slot       section 7.2 has the sizes and the offsets of the header
     block      section 11.1 has a block of the header's length, with the slot of section 7.2 behind number and kind
+    reverse    section 12.2 has the sizes and the offsets of the header's reverse side, and section 12.1 the most bytes of a PTR name
     lines      no line is longer than 119 characters
 """
 
@@ -92,21 +93,34 @@ def fields_of(text: str) -> List[Tuple[int, int, str]]:
     return [(int(at), int(size), what) for at, size, what in re.findall(r"^\| (\d+) \| (\d+) \| (.*) \|$", text, re.M)]
 
 
-def slot(files: Files) -> List[str]:
+def row_of_slots(files: Files, number: str, words: str, offsets: List[str], count: str, size: str) -> List[str]:
+    """Whether a section has a table of a slot's fields as the header has them, and says how many slots there are, of how many bytes."""
     defined = sizes_of(files)
-    text = section(files[RULES], "7.2")
+    text = section(files[RULES], number)
     fields = fields_of(text)
-    wrong = [] if len(fields) == 6 else ["section 7.2 has %d fields" % len(fields)]
+    wrong = [] if len(fields) == len(offsets) else ["section %s has %d fields" % (number, len(fields))]
     end = 0
-    for (at, size, what), name in zip(fields, ["", "SLOT_NAME", "SLOT_FLAGS", "SLOT_A", "SLOT_AAAA", "SLOT_DHCID"]):
+    for (at, length, what), name in zip(fields, offsets):
         if at != end or name and defined[name] != at:
-            wrong.append("a field of section 7.2 is not where the header has it, or not behind the one before: " + what)
-        end = at + size
-    said = re.search(r"A table is ([\d,]+) slots of ([\d,]+) bytes, ([\d,]+) bytes", text)
-    sizes = [int(number.replace(",", "")) for number in said.groups()] if said else []
-    names, length = defined["TABLE_NAMES"], defined["SLOT_LEN"]
-    if sizes != [names, length, names * length] or end != length:
-        wrong.append("section 7.2 has other sizes than the header")
+            wrong.append("a field of section %s is not where the header has it, or not behind the one before: %s" % (number, what))
+        end = at + length
+    said = re.search(words + r" is ([\d,]+) slots of ([\d,]+) bytes, ([\d,]+) bytes", text)
+    sizes = [int(digits.replace(",", "")) for digits in said.groups()] if said else []
+    if sizes != [defined[count], defined[size], defined[count] * defined[size]] or end != defined[size]:
+        wrong.append("section %s has other sizes than the header" % number)
+    return wrong
+
+
+def slot(files: Files) -> List[str]:
+    return row_of_slots(files, "7.2", "A table", ["", "SLOT_NAME", "SLOT_FLAGS", "SLOT_A", "SLOT_AAAA", "SLOT_DHCID"], "TABLE_NAMES", "SLOT_LEN")
+
+
+def reverse(files: Files) -> List[str]:
+    fields = ["", "REVERSE_ADDRESS", "REVERSE_NAME_LEN", "REVERSE_NAME"]
+    wrong = row_of_slots(files, "12.2", "A reverse side", fields, "REVERSE_NAMES", "REVERSE_SLOT_LEN")
+    most = [int(digits) for digits in re.findall(r"(\d+) \|$", section(files[RULES], "12.1"), re.M)]
+    if not most or max(most) != sizes_of(files)["PTR_LIMIT"]:
+        wrong.append("section 12.1 has another length of the longest PTR name than the header")
     return wrong
 
 
@@ -130,7 +144,7 @@ def lines(files: Files) -> List[str]:
     return ["line %d has %d characters" % (number + 1, len(line)) for number, line in enumerate(files[RULES].split("\n")) if len(line) > 119]
 
 
-CHECKS: List[Callable[[Files], List[str]]] = [cited, named, refusals, calls, slot, block, lines]
+CHECKS: List[Callable[[Files], List[str]]] = [cited, named, refusals, calls, slot, block, reverse, lines]
 
 # What each check has to tell: a file, the text that is there, and what is put in its place
 PLANTED = [
@@ -152,6 +166,12 @@ PLANTED = [
     (block, RULES, "| 6 | 255 |", "| 7 | 254 |"),
     (block, RULES, "| 480 | 32 |", "| 448 | 64 |"),
     (block, HEADER, "VICHRELKA_BLOCK_LEN 512", "VICHRELKA_BLOCK_LEN 511"),
+    (reverse, RULES, "| 17 | 1 |", "| 16 | 2 |"),
+    (reverse, RULES, "34,944 bytes (D). Addresses", "34,994 bytes (D). Addresses"),
+    (reverse, RULES, "`arpa` | 74 |", "`arpa` | 73 |"),
+    (reverse, HEADER, "VICHRELKA_REVERSE_NAME 18", "VICHRELKA_REVERSE_NAME 17"),
+    (reverse, HEADER, "VICHRELKA_REVERSE_NAMES 128", "VICHRELKA_REVERSE_NAMES 512"),
+    (reverse, HEADER, "VICHRELKA_PTR_LIMIT 74", "VICHRELKA_PTR_LIMIT 75"),
     (lines, RULES, "# The rules\n", "# The rules" + "!" * 119 + "\n"),
 ]
 

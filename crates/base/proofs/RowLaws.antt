@@ -12,7 +12,7 @@ use Rattle.base.specs.Bytes.{closedUp}
 use Rattle.base.specs.Logic.{Every, Decides}
 use Rattle.base.specs.Rows.{inSlots, rowBytes, IsRow}
 use Rattle.base.proofs.Bytes.{take-replicate, drop-replicate}
-use Rattle.base.proofs.Lists.{every-left, every-middle}
+use Rattle.base.proofs.Lists.{every-left, every-middle, every-right}
 
 -- how many bytes so many slots have, and one more
 more-slots : (size k : ℕ) → size * suc k ≡ size + size * k
@@ -77,6 +77,18 @@ module _ {E : Type 0} (slot : E → List ℕ) (size : ℕ) (WellFormed : E → T
         ∙ append-assoc (inSlots slot p) (slot e) (rowBytes slot size (k - length p - 1) q)
         ∙ ap (λ (v : List ℕ). inSlots slot p ++ v) (sym (row-more slot size (k - length p - 1) e q) ∙ ap (λ (n : ℕ). rowBytes slot size n (e ∷ q)) less)
         ∙ sym (row-split slot size k p (e ∷ q))
+
+  -- the entries from one on
+  pub rest-row : (i k : ℕ) (es : List E) (b : List ℕ) → IsRow slot size WellFormed k es b → i ≤ length es → IsRow slot size WellFormed (k - i) (drop i es) (drop (size * i) b)
+  rest-row i k es b h low =
+      let whole-list : take i es ++ drop i es ≡ es = take-append-drop i es in
+      let g = subst (λ (l : List E). IsRow slot size WellFormed k l b) (sym whole-list) h in
+      let long : length (take i es) ≡ i = length-take-le i es low in
+      record {
+        each = every-right (take i es) (drop i es) (g .each);
+        room = omega (arith, h .room, length-drop i es);
+        form = ap (λ (n : ℕ). drop (size * n) b) (sym long) ∙ after k (take i es) (drop i es) b g ∙ ap (λ (n : ℕ). rowBytes slot size (k - n) (drop i es)) long;
+      }
 
   -- at an entry
   module _ (k : ℕ) (p : List E) (e : E) (r : List E) (b : List ℕ) (h : IsRow slot size WellFormed k (p ++ e ∷ r) b) where

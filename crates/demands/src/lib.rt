@@ -222,7 +222,7 @@ fn lease_in_memory(
 {
     put(table, 0, held);
     put(reverse, 0, behind);
-    vichrelka_lease(table, reverse, name, dhcid, family, address, policy)
+    gateway::vichrelka_lease(table, reverse, name, dhcid, family, address, policy)
 }
 
 // The same, of which then the first k sides are stored, the table first: power fails there.
@@ -322,7 +322,7 @@ fn end_in_memory(
 {
     put(table, 0, held);
     put(reverse, 0, behind);
-    vichrelka_lease_end(table, reverse, name, dhcid, family, address)
+    gateway::vichrelka_lease_end(table, reverse, name, dhcid, family, address)
 }
 
 // The same, of which then the first k sides are stored, the reverse side first: power fails there.

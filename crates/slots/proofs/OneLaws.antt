@@ -1,19 +1,18 @@
 -- Bytes determine the entry of a slot, and the entries of a table. Assumes nothing.
-use Prim.Native.Nat.{ℕ, zero, suc, _≤_}
+use Prim.Native.Nat.{ℕ}
 use mathlib.Core.Bool.{true≢false}
-use mathlib.Core.Path.{_≡_, refl, sym, ap, ap₂, subst, _∙_}
-use mathlib.Core.List.{List, [], _∷_}
+use mathlib.Core.Path.{_≡_, refl, sym, ap, ap₂, _∙_}
+use mathlib.Core.List.{List}
 use mathlib.Core.Option.{Option, none, some}
-use native.Mathlib.Nat.{suc-ne-zero}
-use native.Mathlib.Omega.{arith}
-use lib.ListN.{length, take, drop, getD, drop-of-length-le}
+use lib.ListN.{length, take, drop, getD}
+use Rattle.base.proofs.RowLaws.{one-row}
 use Rattle.slots.specs.Fields.{there}
 use Rattle.slots.specs.Form.{TableEntry, field, flags, slotBytes, WellFormed, IsTable}
 use Rattle.slots.specs.Promise.{isSet}
 use Rattle.slots.specs.Sizes.{slotSize}
 use Rattle.slots.proofs.FlagLaws.{flag-a, flag-aaaa, flag-dhcid}
-use Rattle.slots.proofs.LaidLaws.{slot-sizes, slot-length, slot-name, flags-of, a-of, aaaa-of, dhcid-of}
-use Rattle.slots.proofs.TableLaws.{unused-from, used-from}
+use Rattle.slots.proofs.LaidLaws.{length-slot, slot-sizes, slot-length, slot-name, flags-of, a-of, aaaa-of, dhcid-of}
+use Rattle.slots.proofs.TableLaws.{as-row, one-byte, slot-marked}
 
 -- ---- one slot
 
@@ -35,22 +34,5 @@ one-slot e f w v s =
 
 -- ---- the table
 
-no-entries : (t : List TableEntry) → length t ≤ 0 → t ≡ []
-no-entries t none-left = drop-of-length-le t {i = 0} none-left
-
 pub one-from : (k : ℕ) (t u : List TableEntry) (b : List ℕ) → IsTable k t b → IsTable k u b → t ≡ u
-one-from zero t u b h g = no-entries t (h .room) ∙ sym (no-entries u (g .room))
-one-from (suc k) t u b h g = go (getD b 0 0) refl (λ s r. one-from k s r (drop slotSize b))
-  where
-    go : (v : ℕ) → getD b 0 0 ≡ v → ((s r : List TableEntry) → IsTable k s (drop slotSize b) → IsTable k r (drop slotSize b) → s ≡ r) → t ≡ u
-    go zero z below = unused-from (suc k) b z t h .0 ∙ sym (unused-from (suc k) b z u g .0)
-    go (suc v) z below =
-        let nz : getD b 0 0 ≡ 0 → ⊥ = λ y. suc-ne-zero v (sym z ∙ y) in
-        let x = used-from (suc k) b (omega arith) nz t h in
-        let y = used-from (suc k) b (omega arith) nz u g in
-        let left : x .left ≡ k = omega (arith, x .limit) in
-        let left′ : y .left ≡ k = omega (arith, y .limit) in
-        x .order
-        ∙ ap₂ _∷_ (one-slot (x .entry) (y .entry) (x .well-formed) (y .well-formed) (sym (x .slot) ∙ y .slot))
-        (below (x .later) (y .later) (subst (λ (n : ℕ). IsTable n (x .later) (drop slotSize b)) left (x .rest)) (subst (λ (n : ℕ). IsTable n (y .later) (drop slotSize b)) left′ (y .rest)))
-        ∙ sym (y .order)
+one-from k t u b h g = one-row slotBytes slotSize WellFormed length-slot one-byte slot-marked one-slot k t u b (as-row h) (as-row g)
