@@ -6,6 +6,7 @@
 #include <string.h>
 
 #include "measure.h"
+#include "names.h"
 #include "table_plain.h"
 #include "vichrelka.h"
 
@@ -15,54 +16,11 @@ enum { ROUNDS = 40, CALLS_BLOCK = 32, CALLS_SHORT = 8, CALLS_LONG = 1 };
 enum { ROUNDS_LEAST = 3, SECONDS = 5 };
 enum { NAMES = VICHRELKA_TABLE_NAMES, LONG = 10000, CROWD = LONG / 2, BLOCK = VICHRELKA_BLOCK_LEN };
 
-/* what may stand in a label, in lower case */
-static const char IN_LABEL[] = "abcdefghijklmnopqrstuvwxyz0123456789-_";
-enum { LABEL_BYTES = sizeof IN_LABEL - 1 };
-
-struct name {
-    size_t len;
-    uint8_t bytes[NAME_LIMIT];
-};
-
 /* the table is what its blocks leave, if there is one */
 struct book {
     size_t len;
     uint8_t bytes[LONG * BLOCK], table[VICHRELKA_TABLE_LEN];
 };
-
-/* Names, in text */
-
-static void ordinary(char *text, int i)
-{
-    static const char *const THINGS[] = {"tank", "pump", "valve", "gauge", "weather-mast"};
-    static const char *const PLACES[] = {"bay", "hall", "greenhouse"};
-    sprintf(text, "%s-%d.%s-%d.example.com.", THINGS[i % 5], i + 1, PLACES[i % 3], i % 12 + 1);
-}
-
-/* 255 bytes in wire form, labels of 63, 63, 63 and 61 characters: alike but for the last three */
-static void long_alike(char *text, int i)
-{
-    for (int at = 0; at < VICHRELKA_NAME_TEXT_LIMIT; at++)
-        text[at] = at % (LABEL_LIMIT + 1) == LABEL_LIMIT ? '.' : (char)('a' + at % 26);
-    for (int at = VICHRELKA_NAME_TEXT_LIMIT - 2; at > VICHRELKA_NAME_TEXT_LIMIT - 5; at--, i /= LABEL_BYTES)
-        text[at] = IN_LABEL[i % LABEL_BYTES];
-    text[VICHRELKA_NAME_TEXT_LIMIT - 1] = '.';
-    text[VICHRELKA_NAME_TEXT_LIMIT] = 0;
-}
-
-typedef void text_fn(char *text, int i);
-
-static struct name name_of(text_fn *write, int i)
-{
-    char text[VICHRELKA_NAME_TEXT_LIMIT + 1];
-    struct name name;
-    write(text, i);
-    uint64_t answer = vichrelka_name_from_text((const uint8_t *)text, strlen(text), name.bytes, sizeof name.bytes);
-    if (vichrelka_refusal(answer) != 0)
-        stop(text, "not a name");
-    name.len = vichrelka_value(answer);
-    return name;
-}
 
 /* Books */
 

@@ -1,8 +1,8 @@
 /* The slowest input that was found for each call of vichrelka.h: see bench/slowest.sh.
  *
- * The inputs were made from what the code does with each byte: as many options, labels, words or entries as fit, names that are alike up to their ends, and names
- * that the first test of a load does not tell apart. Books have 10,000 blocks: the time grows with that number, and with its square if there are more names
- * than a table has room for. Each is timed, and the slowest of each call is printed. Every answer is checked. */
+ * The inputs were made from what the code does with each byte: as many options, labels, words or entries as fit, names and addresses that are alike up to
+ * their ends, and names that the first test of a load does not tell apart. Books have 10,000 blocks: the time grows with that number, and with its square if
+ * there are more names than a table has room for. Each is timed, and the slowest of each call is printed. Every answer is checked. */
 #include <stdbool.h>
 #include <stdio.h>
 #include <string.h>
@@ -117,6 +117,7 @@ static uint64_t accepted(uint32_t value)
 }
 
 static uint8_t table[VICHRELKA_TABLE_LEN], area[VICHRELKA_TABLE_LEN], out[VICHRELKA_WRITTEN_LIMIT];
+static uint8_t reverse[VICHRELKA_REVERSE_LEN], reverse_area[VICHRELKA_REVERSE_LEN];
 
 enum { BLOCKS = 10000 };
 static struct {
@@ -227,6 +228,43 @@ static uint64_t sound_call(const struct input *in)
 {
     (void)in;
     return vichrelka_book_sound(book.at, book.len);
+}
+
+static uint64_t ptr_call(const struct input *in)
+{
+    return vichrelka_ptr_name(in->number, in->bytes.at, in->bytes.len, out, sizeof out);
+}
+
+/* `bytes` is a name, and `second` an address */
+static uint64_t lease_call(const struct input *in)
+{
+    return vichrelka_lease(table, sizeof table, reverse, sizeof reverse, in->bytes.at, in->bytes.len, DHCID, sizeof DHCID, in->number, in->second.at,
+                           in->second.len, VICHRELKA_LATEST_WINS);
+}
+
+static uint64_t end_call(const struct input *in)
+{
+    return vichrelka_lease_end(table, sizeof table, reverse, sizeof reverse, in->bytes.at, in->bytes.len, DHCID, sizeof DHCID, in->number, in->second.at,
+                               in->second.len);
+}
+
+/* both sides are put back first, which takes about a hundredth of the time */
+static void put_back(void)
+{
+    memcpy(table, area, sizeof table);
+    memcpy(reverse, reverse_area, sizeof reverse);
+}
+
+static uint64_t new_lease_call(const struct input *in)
+{
+    put_back();
+    return lease_call(in);
+}
+
+static uint64_t whole_end_call(const struct input *in)
+{
+    put_back();
+    return end_call(in);
 }
 
 /* Messages */
@@ -678,6 +716,129 @@ static void books(void)
     say("vichrelka_book_sound");
 }
 
+/* Leases */
+
+static void ptrs(void)
+{
+    static const struct {
+        const char *what, *bytes;
+        uint32_t family;
+        size_t len;
+    } KINDS[] = {
+        {"an IPv4 address whose numbers have three digits", "\xff\xff\xff\xff", VICHRELKA_IPV4, 4},
+        {"an IPv4 address whose numbers have one digit", "\1\2\3\4", VICHRELKA_IPV4, 4},
+        {"an IPv4 address whose numbers have one, three, two and three digits", "\1\377\20\377", VICHRELKA_IPV4, 4},
+        {"an IPv6 address", "\x20\1\xd\xb8\x9a\xbc\xde\xf0\1\2\3\4\x5a\xa5\x5a\xa5", VICHRELKA_IPV6, 16},
+    };
+    for (size_t k = 0; k < sizeof KINDS / sizeof KINDS[0]; k++) {
+        memset(&in, 0, sizeof in);
+        in.what = KINDS[k].what;
+        in.number = KINDS[k].family;
+        put(&in.bytes, KINDS[k].bytes, KINDS[k].len);
+        try_accepted(ptr_call, &in);
+    }
+    say("vichrelka_ptr_name");
+}
+
+/* the lease of a name with an address, of those that differ in the last byte */
+static void ask_lease(const char *(*text)(int), int index, uint32_t family, int address)
+{
+    in.bytes.len = wire(text(index), in.bytes.at);
+    in.number = family;
+    in.second.len = 0;
+    put(&in.second, ADDRESS, (family == VICHRELKA_IPV6 ? 16 : 4) - 1);
+    put_byte(&in.second, (unsigned)address);
+}
+
+/* Both sides after so many leases: 64 names, which get another address from the 65th lease on and stay behind the former one. Each lease is that of its
+   number. */
+static void begin_sides(const char *what, const char *(*text)(int), uint32_t family, int leases)
+{
+    memset(&in, 0, sizeof in);
+    in.what = what;
+    memset(table, 0, sizeof table);
+    memset(reverse, 0, sizeof reverse);
+    for (int i = 0; i < leases; i++) {
+        ask_lease(text, i % VICHRELKA_TABLE_NAMES, family, i);
+        if (vichrelka_refusal(lease_call(&in)) != 0)
+            stop(what, "a lease is refused");
+    }
+    memcpy(area, table, sizeof area);
+    memcpy(reverse_area, reverse, sizeof reverse_area);
+}
+
+/* Behind each address is this name from now on */
+static void all_behind(const char *text)
+{
+    uint8_t name[VICHRELKA_NAME_LIMIT] = {0};
+    size_t len = wire(text, name);
+    for (uint8_t *slot = reverse; slot < reverse + sizeof reverse; slot += VICHRELKA_REVERSE_SLOT_LEN) {
+        slot[VICHRELKA_REVERSE_NAME_LEN] = (uint8_t)len;
+        memcpy(slot + VICHRELKA_REVERSE_NAME, name, sizeof name);
+    }
+    memcpy(reverse_area, reverse, sizeof reverse_area);
+}
+
+enum { NAMES = VICHRELKA_TABLE_NAMES, ADDRESSES = VICHRELKA_REVERSE_NAMES };
+
+/* the names of short_labels */
+#define ALIKE "64 names of 254 bytes, 125 labels and one in which they differ, "
+
+/* of a name that is the client's already, and of one that comes; with no room behind (46) */
+static void leases(void)
+{
+    begin_sides("64 names of 255 bytes that differ in the last two, 128 AAAA that differ in the last byte; the last one again", long_labels, VICHRELKA_IPV6,
+                ADDRESSES);
+    try(lease_call, &in, accepted(1));
+    begin_sides(ALIKE "128 AAAA that differ in the last byte; the last one again", short_labels, VICHRELKA_IPV6, ADDRESSES);
+    try(lease_call, &in, accepted(1));
+    begin_sides(ALIKE "128 A that differ in the last byte; the last one again", short_labels, VICHRELKA_IPV4, ADDRESSES);
+    try(lease_call, &in, accepted(1));
+    begin_sides(ALIKE "128 AAAA that differ in the last byte; the first one again", short_labels, VICHRELKA_IPV6, ADDRESSES);
+    ask_lease(short_labels, 0, VICHRELKA_IPV6, NAMES);
+    try(lease_call, &in, accepted(1));
+    begin_sides(ALIKE "127 AAAA that differ in the last byte, and the last one comes", short_labels, VICHRELKA_IPV6, ADDRESSES - 1);
+    ask_lease(short_labels, NAMES - 1, VICHRELKA_IPV6, ADDRESSES - 1);
+    try(new_lease_call, &in, accepted(1));
+    begin_sides(ALIKE "128 AAAA that differ in the last byte, and another one that has no room (46)", short_labels, VICHRELKA_IPV6, ADDRESSES);
+    ask_lease(short_labels, NAMES - 1, VICHRELKA_IPV6, ADDRESSES);
+    try(lease_call, &in, VICHRELKA_REFUSED_REVERSE_FULL);
+    begin_sides(ALIKE "a name of 127 labels behind each of 128 AAAA; the last one again", short_labels, VICHRELKA_IPV6, ADDRESSES);
+    all_behind(one_byte_labels(0));
+    try(new_lease_call, &in, accepted(1));
+    say("vichrelka_lease");
+}
+
+/* of the last lease, and of the first address that a client has not left: 63 slots are behind it, and 63 behind the name */
+static void ends(void)
+{
+    static const struct {
+        const char *last, *first, *refused;
+        const char *(*text)(int);
+    } KINDS[] = {
+        {"64 names of 255 bytes that differ in the last two, 128 AAAA that differ in the last byte; the last one ends",
+         "64 names of 255 bytes that differ in the last two, 128 AAAA that differ in the last byte; the first one ends",
+         "64 names of 255 bytes that differ in the last two, 128 AAAA that differ in the last byte; the last one has another address (34)", long_labels},
+        {ALIKE "128 AAAA that differ in the last byte; the last one ends", ALIKE "128 AAAA that differ in the last byte; the first one ends",
+         ALIKE "128 AAAA that differ in the last byte; the last one has another address (34)", short_labels},
+    };
+    for (size_t k = 0; k < sizeof KINDS / sizeof KINDS[0]; k++) {
+        begin_sides(KINDS[k].last, KINDS[k].text, VICHRELKA_IPV6, ADDRESSES);
+        try(whole_end_call, &in, 0);
+        begin_sides(KINDS[k].first, KINDS[k].text, VICHRELKA_IPV6, ADDRESSES);
+        ask_lease(KINDS[k].text, 0, VICHRELKA_IPV6, NAMES);
+        try(whole_end_call, &in, 0);
+        begin_sides(KINDS[k].refused, KINDS[k].text, VICHRELKA_IPV6, ADDRESSES);
+        ask_lease(KINDS[k].text, NAMES - 1, VICHRELKA_IPV6, 0);
+        try(end_call, &in, VICHRELKA_REFUSED_ADDRESS_DIFFERS);
+    }
+    begin_sides(ALIKE "a name of 127 labels behind each of 128 AAAA; the first one ends", short_labels, VICHRELKA_IPV6, ADDRESSES);
+    all_behind(one_byte_labels(0));
+    ask_lease(short_labels, 0, VICHRELKA_IPV6, NAMES);
+    try(whole_end_call, &in, 0);
+    say("vichrelka_lease_end");
+}
+
 int main(int argc, char **argv)
 {
     verbose = argc > 1 && strcmp(argv[1], "-v") == 0;
@@ -695,5 +856,8 @@ int main(int argc, char **argv)
     loads();
     blocks();
     books();
+    ptrs();
+    leases();
+    ends();
     return 0;
 }

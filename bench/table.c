@@ -7,6 +7,7 @@
 #include <string.h>
 
 #include "measure.h"
+#include "names.h"
 #include "table_plain.h"
 #include "vichrelka.h"
 
@@ -16,15 +17,12 @@ enum { ROUNDS = 40, CALLS_ONE = 1024, CALLS_FULL = 32, CALLS_LISTING = 8, CALLS_
 enum { ROUNDS_LEAST = 3, SECONDS = 5 };
 enum { NAMES = VICHRELKA_TABLE_NAMES, ADDRESS_LIMIT = 16 };
 
-/* what may stand in a label, in lower case */
-static const char IN_LABEL[] = "abcdefghijklmnopqrstuvwxyz0123456789-_";
-enum { LABEL_BYTES = sizeof IN_LABEL - 1 };
-
 /* a name and who holds it */
 struct entry {
-    size_t len, address_len;
+    struct name name;
+    size_t address_len;
     uint32_t family;
-    uint8_t name[NAME_LIMIT], address[ADDRESS_LIMIT], dhcid[VICHRELKA_DHCID_LEN];
+    uint8_t address[ADDRESS_LIMIT], dhcid[VICHRELKA_DHCID_LEN];
 };
 
 struct listing {
@@ -48,42 +46,9 @@ struct list {
     struct step steps[2 * NAMES];
 };
 
-/* Names, in text, without the last dot */
-
-static void ordinary(char *text, int i)
-{
-    static const char *const THINGS[] = {"tank", "pump", "valve", "gauge", "weather-mast"};
-    static const char *const PLACES[] = {"bay", "hall", "greenhouse"};
-    sprintf(text, "%s-%d.%s-%d.example.com", THINGS[i % 5], i + 1, PLACES[i % 3], i % 12 + 1);
-}
-
-/* 255 bytes in wire form: labels of 63, 63, 63 and 61 characters, all from `first` on in the order of the alphabet */
-static void long_name(char *text, int first)
-{
-    for (int at = 0; at < NAME_LIMIT - 2; at++)
-        text[at] = at % (LABEL_LIMIT + 1) == LABEL_LIMIT ? '.' : (char)('a' + (first + at) % 26);
-    text[NAME_LIMIT - 2] = 0;
-}
-
-static void long_different(char *text, int i)
-{
-    long_name(text, i);
-    /* there are but 26 beginnings, so a number too, where a name would have it */
-    text[6] = (char)('0' + i / 8);
-    text[7] = (char)('0' + i % 8);
-}
-
-/* No more than 38 names can differ in one byte only, so there are two groups, which differ in the byte before it. */
-static void long_alike(char *text, int i)
-{
-    long_name(text, 0);
-    text[NAME_LIMIT - 4] = IN_LABEL[i / LABEL_BYTES];
-    text[NAME_LIMIT - 3] = IN_LABEL[i % LABEL_BYTES];
-}
-
 static struct kind {
     const char *what;
-    void (*write)(char *text, int i);
+    text_fn *write;
     int count;
     bool three_records; /* both addresses; written and loaded */
     struct entry entries[NAMES], others[NAMES];
@@ -104,26 +69,9 @@ static struct kind {
 };
 enum { KINDS = sizeof kinds / sizeof kinds[0] };
 
-/* Text to wire form */
-static size_t wire(const char *text, uint8_t *name)
+static void make_entry(struct entry *e, text_fn *write, int i, uint32_t family)
 {
-    size_t len = 0;
-    while (*text) {
-        size_t label = strcspn(text, ".");
-        name[len++] = (uint8_t)label;
-        memcpy(name + len, text, label);
-        len += label;
-        text += label + (text[label] == '.');
-    }
-    name[len++] = 0;
-    return len;
-}
-
-static void make_entry(struct entry *e, void (*write)(char *, int), int i, uint32_t family)
-{
-    char text[NAME_LIMIT];
-    write(text, i);
-    e->len = wire(text, e->name);
+    e->name = name_of(write, i);
     e->family = family;
     e->address_len = family == 6 ? 16 : 4;
     /* no A has a longer text: four numbers of three digits */
@@ -167,11 +115,11 @@ static uint64_t call(int number, const struct step *s)
     case LOAD:
         return c->load(table, VICHRELKA_TABLE_LEN, s->listing->text, s->listing->len);
     case REMOVE:
-        return c->remove(table, VICHRELKA_TABLE_LEN, e->name, e->len, e->dhcid, sizeof e->dhcid, e->family, e->address, e->address_len);
+        return c->remove(table, VICHRELKA_TABLE_LEN, e->name.bytes, e->name.len, e->dhcid, sizeof e->dhcid, e->family, e->address, e->address_len);
     case CLEAR:
-        return c->clear(table, VICHRELKA_TABLE_LEN, e->name, e->len);
+        return c->clear(table, VICHRELKA_TABLE_LEN, e->name.bytes, e->name.len);
     default:
-        return c->add(table, VICHRELKA_TABLE_LEN, e->name, e->len, s->call == ADD ? e->dhcid : ANOTHER, sizeof e->dhcid, e->family, e->address,
+        return c->add(table, VICHRELKA_TABLE_LEN, e->name.bytes, e->name.len, s->call == ADD ? e->dhcid : ANOTHER, sizeof e->dhcid, e->family, e->address,
                       e->address_len, VICHRELKA_FIRST_WINS);
     }
 }

@@ -268,7 +268,7 @@ static inline const char *vichrelka_refusal_text(uint32_t number)
     case VICHRELKA_REFUSED_NAME_NOT_HELD: return "the name is not in the table";
     case VICHRELKA_REFUSED_ADDRESS_DIFFERS: return "the name does not have this address";
     case VICHRELKA_REFUSED_RECORD_REPEATED: return "the listing has two records of one type for a name";
-    case VICHRELKA_REFUSED_TABLE_NOT_SOUND: return "a table or reverse side is not sound, or a book has too many names";
+    case VICHRELKA_REFUSED_TABLE_NOT_SOUND: return "a table or reverse side is unsound, or a book has too many names";
     case VICHRELKA_REFUSED_WRONG_CHECK: return "a block's check is wrong";
     case VICHRELKA_REFUSED_WRONG_FIELD: return "a block's number or one of its fields is wrong";
     case VICHRELKA_REFUSED_BLOCK_LENGTH: return "the bytes are not whole blocks";
@@ -623,9 +623,10 @@ VICHRELKA_NODISCARD
 uint64_t vichrelka_ptr_name(uint32_t family, const uint8_t *address, size_t address_len, uint8_t *out, size_t out_len);
 
 /*
- * The reverse side: for each address one name behind it, up to VICHRELKA_REVERSE_NAMES addresses in the order in which
- * they came. It is VICHRELKA_REVERSE_LEN bytes of yours, beside the table. All zeros is the empty one. The bytes may be
- * stored, copied and compared as they are. A lease and its end test that they are sound, and leave them so:
+ * The reverse side: for each address one name behind it, up to VICHRELKA_REVERSE_NAMES addresses in the order in
+ * which they came. It is VICHRELKA_REVERSE_LEN bytes of yours, beside the table. All zeros is the empty one. The
+ * bytes may be stored, copied and compared as they are. A lease and its end test that they are sound, and leave them
+ * so:
  *
  *     a slot       the family (1 byte), the address (16), the name's wire length (1), the name (255)
  *     the family   4 or 6
@@ -636,43 +637,43 @@ uint64_t vichrelka_ptr_name(uint32_t family, const uint8_t *address, size_t addr
  *
  * All zeros are sound here too: a store that was lost and comes back as zeros is an empty reverse side.
  *
- * A lease writes the table first and then the reverse side; its end writes the reverse side first and then the table.
- * So neither of their steps puts a name behind an address that the name does not have. What they leave as it was: the
- * reverse name of a client's former address, when it gets another one, and those of a former client in a takeover. The
- * table's own calls, a load and a replay do not know the reverse side and leave it as it is.
+ * A lease writes the table first and then the reverse side; its end writes the reverse side first and then the
+ * table. So neither of their steps puts a name behind an address that the name does not have. What they leave as it
+ * was: the reverse name of a client's former address, when it gets another one, and those of a former client in a
+ * takeover. The table's own calls, a load and a replay do not know the reverse side and leave it as it is.
  *
  * After a power cut. A call works on your memory, and what was only there is gone. What outlasts a cut is what you
- * stored, so store in the same order: for a lease the table's change first and then the reverse side, for its end the
- * reverse side first and then the table's change, each whole and on the disk before the next (the table's change as a
- * block of the book; the reverse side under another name, then renamed). If the second could not be stored, do no other
- * step on these two sides before it is. A cut then leaves the state before the call, between the two steps, or after
- * it. Run the same call again on what you read back, before any other call on these two sides, and it ends in the state
- * of an uncut run, both sides, however often it is cut:
+ * stored, so store in the same order: for a lease the table's change first and then the reverse side, for its end
+ * the reverse side first and then the table's change, each whole and on the disk before the next (the table's change
+ * as a block of the book; the reverse side under another name, then renamed). If the second could not be stored, do
+ * no other step on these two sides before it is. A cut then leaves the state before the call, between the two steps,
+ * or after it. Run the same call again on what you read back, before any other call on these two sides, and it ends
+ * in the state of an uncut run, both sides, however often it is cut:
  *
  *     a lease      The client asks again, since you tell it only when both are stored. Keep its request if other calls
  *                  may come first. The second run answers 1 where an uncut one answers 0 or 2, once a step was stored.
  *     its end      Nobody asks again: keep it, from before the call until both are stored, and run it after a restart.
  *                  The second run answers 0; or 33 or 34 if both had been stored. Take these as done then.
  *
- * To ask whether stored bytes are a sound table and a sound reverse side, end a lease of a name of no bytes: it is 40
- * if one of them is not, and 9 if both are. Do not lend memory that keeps its bytes without power: a call may be cut in
- * the middle of a slot there. docs/POWER.md goes through all the cuts.
+ * To ask whether stored bytes are a sound table and a sound reverse side, end a lease of a name of no bytes: it is
+ * 40 if one of them is not, and 9 if both are. Do not lend memory that keeps its bytes without power: a call may be
+ * cut in the middle of a slot there. docs/POWER.md goes through all the cuts.
  *
  * If a lease is refused with 46, too many reverse names of former addresses, of takeovers and of cleared names are
- * there. Make room: take a new reverse side (zeros), and for each address in the table run the lease of its name again,
- * with copies of the name, the DHCID and the address that are in the slot. Each answers 1 and leaves the table as it
- * is. (A name that is kept by hand has no lease; its address has no reverse name here.) If every name has both an A and
- * an AAAA, that does not help: end a lease first, the client's former one or one that is over.
+ * there. Make room: take a new reverse side (zeros), and for each address in the table run the lease of its name
+ * again, with copies of the name, the DHCID and the address that are in the slot. Each answers 1 and leaves the
+ * table as it is. (A name that is kept by hand has no lease; its address has no reverse name here.) If every name
+ * has both an A and an AAAA, that does not help: end a lease first, the client's former one or one that is over.
  */
 
 /*
  * A lease: give the name to the client with this DHCID, with this address, as vichrelka_table_add does, and then put
  * the name behind the address. Its value is that of the add: 0, 1 or 2. If the address is in the reverse side, this
- * name, in lower case, takes the place of the one behind it; if not, it is now the last. Every other slot stays. Copy
- * a name, a DHCID or an address out of table or reverse side before you give it to this call: both are written.
+ * name, in lower case, takes the place of the one behind it; if not, it is now the last. Every other slot stays.
+ * Copy a name, a DHCID or an address out of table or reverse side before you give it to this call: both are written.
  *
- * Refusals, in order, with place 0: 12 (family, policy); 40 (the table, or the reverse side); 9, 15, 16; 46; then 32,
- * 31, or 30 under VICHRELKA_FIRST_WINS. If it is refused, both sides are as they were.
+ * Refusals, in order, with place 0: 12 (family, policy); 40 (the table, or the reverse side); 9, 15, 16; 46; then
+ * 32, 31, or 30 under VICHRELKA_FIRST_WINS. If it is refused, both sides are as they were.
  */
 VICHRELKA_NODISCARD
 uint64_t vichrelka_lease(uint8_t *table, size_t table_len, uint8_t *reverse, size_t reverse_len,
@@ -682,13 +683,13 @@ uint64_t vichrelka_lease(uint8_t *table, size_t table_len, uint8_t *reverse, siz
 
 /*
  * An ended lease: take the name from behind the address, if it is this one, and then delete the address as
- * vichrelka_table_remove does. Its value is 0. If another name is behind the address, or none, the reverse side stays
- * as it is. If a reverse name goes, later ones move up by a slot, and the slot behind the last becomes zeros.
+ * vichrelka_table_remove does. Its value is 0. If another name is behind the address, or none, the reverse side
+ * stays as it is. If a reverse name goes, later ones move up by a slot, and the slot behind the last becomes zeros.
  *
- * Refusals, in order, with place 0: 12 (family); 40 (the table, or the reverse side); 9, 15, 16; then the remove's 33,
- * 31, 30, 34. If it is refused, both sides are as they were. After a power cut 33 and 34 may mean that it was done: see
- * above. Copy a name, a DHCID or an address out of table or reverse side before you give it to this call: both are
- * written.
+ * Refusals, in order, with place 0: 12 (family); 40 (the table, or the reverse side); 9, 15, 16; then the remove's
+ * 33, 31, 30, 34. If it is refused, both sides are as they were. After a power cut 33 and 34 may mean that it was
+ * done: see above. Copy a name, a DHCID or an address out of table or reverse side before you give it to this call:
+ * both are written.
  */
 VICHRELKA_NODISCARD
 uint64_t vichrelka_lease_end(uint8_t *table, size_t table_len, uint8_t *reverse, size_t reverse_len,

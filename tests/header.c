@@ -102,7 +102,7 @@ static int wrong_texts(void)
     wrong |= known != 32 || !says(0, "accepted") || !says(VICHRELKA_REFUSED_HELD_BY_ANOTHER, "another client holds the name");
     wrong |= !says(10, "unknown refusal") || !says(18, "unknown refusal") || !says(19, "unknown refusal") || !says(23, "unknown refusal");
     wrong |= !says(25, "unknown refusal") || !says(41, "unknown refusal") || !says(45, "unknown refusal") || !says(0xffffffffu, "unknown refusal");
-    wrong |= !says(VICHRELKA_REFUSED_TABLE_NOT_SOUND, "a table or reverse side is not sound, or a book has too many names");
+    wrong |= !says(VICHRELKA_REFUSED_TABLE_NOT_SOUND, "a table or reverse side is unsound, or a book has too many names");
     wrong |= !says(VICHRELKA_REFUSED_REVERSE_FULL, "the reverse side has no room for another address");
     return wrong;
 }

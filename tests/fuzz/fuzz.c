@@ -72,6 +72,42 @@ struct slot numbered_slot(size_t number)
     return s;
 }
 
+void put_slot(struct input *in, uint8_t *table)
+{
+    struct slot *s = (struct slot *)table, *last = s + VICHRELKA_TABLE_NAMES - 1;
+    while (s < last && s->len != 0)
+        s++;
+    take_slot(in, s);
+}
+
+void fill_table(uint8_t names, uint8_t *table)
+{
+    for (size_t i = 0; i < (size_t)names % (VICHRELKA_TABLE_NAMES + 1); i++)
+        ((struct slot *)table)[i] = numbered_slot(i);
+}
+
+void take_client(struct input *in, const uint8_t *table, struct step_arguments *a)
+{
+    uint8_t choice = take(in), which = take(in);
+    const struct slot *s = (const struct slot *)table + which % VICHRELKA_TABLE_NAMES;
+    a->dhcid = (struct bytes){a->dhcid_bytes, sizeof a->dhcid_bytes, 0};
+    if (choice & 1)
+        memcpy(a->dhcid_bytes, s->dhcid, sizeof s->dhcid);
+    else if (choice & 2)
+        a->dhcid = take_slice(in, choice & 64 ? which : VICHRELKA_DHCID_LEN);
+    else
+        small_dhcid(which, a->dhcid_bytes);
+    a->family = choice & 128 ? take(in) : choice & 4 ? 6 : 4;
+    size_t address_len = a->family == 4 ? 4 : 16;
+    a->address = (struct bytes){a->address_bytes, address_len, 0};
+    if (choice & 8)
+        memcpy(a->address_bytes, a->family == 4 ? s->a : s->aaaa, address_len);
+    else if (choice & 16)
+        a->address = take_slice(in, choice & 32 ? take(in) : address_len);
+    else
+        memset(a->address_bytes, take(in), address_len);
+}
+
 struct bytes take_name(struct input *in, const uint8_t *table, uint8_t *room)
 {
     uint8_t choice = take(in), which = take(in);
@@ -101,7 +137,8 @@ void differ(const char *call, const char *what, uint64_t library, uint64_t plain
 
 const char *const CALL_NAMES[CALLS] = {"name",  "dhcid", "check", "load",  "add",       "remove",
                                        "clear", "write", "find",  "count", "from text", "to text",
-                                       "block", "replay", "tidy", "sound"};
+                                       "block", "replay", "tidy", "sound", "lease",     "end",
+                                       "ptr"};
 uint64_t answers[CALLS][NUMBERS];
 
 void count(enum call call, uint64_t answer)

@@ -7,7 +7,7 @@
 #include "plain.h"
 
 typedef void target_fn(const uint8_t *input, size_t len);
-target_fn try_message, try_listing, try_table, try_name_text, try_book;
+target_fn try_message, try_listing, try_table, try_name_text, try_book, try_lease;
 
 /* The bytes of an input that are not taken yet. Behind its end there are zeros. */
 struct input {
@@ -35,6 +35,20 @@ struct slot numbered_slot(size_t number);
 /* A name: what is in a slot of the table, what the input says, or a small one */
 struct bytes take_name(struct input *in, const uint8_t *table, uint8_t *room);
 
+/* The next unused slot of a table gets what the input says; or its first slots, so many at most as it has, get a name with a client each */
+void put_slot(struct input *in, uint8_t *table);
+void fill_table(uint8_t names, uint8_t *table);
+
+/* The arguments of a step */
+struct step_arguments {
+    uint8_t name_bytes[NAME_LIMIT + 1], dhcid_bytes[VICHRELKA_DHCID_LEN], address_bytes[16];
+    struct bytes name, dhcid, address;
+    uint32_t family, policy;
+};
+
+/* All but name and policy: the client and the address of a slot of the table, what the input says, or small ones */
+void take_client(struct input *in, const uint8_t *table, struct step_arguments *a);
+
 /* Whether so many bytes are the same; none are, whatever the pointers */
 int same(const uint8_t *one, const uint8_t *other, size_t len);
 
@@ -45,7 +59,7 @@ _Noreturn void differ(const char *call, const char *what, uint64_t library, uint
 void agree(const char *call, uint64_t library, uint64_t plain, int same_written, int all_as_lent);
 
 /* The answers that were compared, for those who count: by call and number, 0 is accepted */
-enum call { NAME, DHCID, CHECK, LOAD, ADD, REMOVE, CLEAR, WRITE, FIND, COUNT, FROM_TEXT, TO_TEXT, BLOCK, REPLAY, TIDY, SOUND, CALLS };
+enum call { NAME, DHCID, CHECK, LOAD, ADD, REMOVE, CLEAR, WRITE, FIND, COUNT, FROM_TEXT, TO_TEXT, BLOCK, REPLAY, TIDY, SOUND, LEASE, END, PTR, CALLS };
 enum { NUMBERS = 64 };
 extern const char *const CALL_NAMES[CALLS];
 extern uint64_t answers[CALLS][NUMBERS];

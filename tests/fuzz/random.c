@@ -684,6 +684,169 @@ static void make_book(void)
     damage(one_in(16) ? 0 : len);
 }
 
+/* Leases: the steps are lease.c's, of which the first four are table.c's. */
+
+enum { PUT_REVERSE = LENGTH + 1, POINTER, FILL_REVERSE, LENGTH_REVERSE, LEASE_STEP, END_STEP, PTR_STEP };
+
+/* Seldom with an address that a side which was filled has as well */
+static void put_pointer(void)
+{
+    int of_slot = one_in(6);
+    put(POINTER);
+    put((uint8_t)(chance(2) | (of_slot ? 2 : 0) | chance(2) << 2));
+    put((uint8_t)(of_slot ? chance(8) : one_in(40) ? chance(256) : 128 + chance(128)));
+    put(name_choice());
+}
+
+/* Bytes of a reverse side, from here on in a slot */
+static void put_reverse(uint32_t slot, uint32_t at, const void *bytes, size_t count)
+{
+    put(PUT_REVERSE);
+    put_two(VICHRELKA_REVERSE_SLOT_LEN * slot + at);
+    put((uint8_t)count);
+    memcpy(input + len, bytes, count);
+    len += count;
+}
+
+/* The reverse side is damaged: its length, a slot, or a byte, mostly one that says something */
+static void put_reverse_damage(void)
+{
+    static const uint16_t FIELDS[] = {0, 1, 4, 5, 6, 15, 16, 17, 18, 19, 20, 21, 82, 271, 272};
+    enum { COUNT = sizeof FIELDS / sizeof FIELDS[0] };
+    uint32_t slot = one_in(8) ? 127 : chance(one_in(2) ? 4 : 128), number = chance(128);
+    uint8_t bytes[255] = {0};
+    switch (chance(8)) {
+    case 0:
+        put(LENGTH_REVERSE);
+        put_two(one_in(3) ? VICHRELKA_REVERSE_LEN - 2 + chance(5) : one_in(2) ? VICHRELKA_REVERSE_SLOT_LEN * chance(130) : chance(35457));
+        break;
+    case 1: /* an unused slot */
+        put_reverse(slot, 0, bytes, sizeof bytes);
+        put_reverse(slot, sizeof bytes, bytes, VICHRELKA_REVERSE_SLOT_LEN - sizeof bytes);
+        break;
+    case 2: /* the root's name, over one of a letter */
+        bytes[0] = 1;
+        put_reverse(slot, VICHRELKA_REVERSE_NAME_LEN, bytes, 4);
+        break;
+    case 3: /* an address that a filled side has already, or the same bytes with the other family */
+        bytes[0] = (uint8_t)(one_in(4) ? 4 + 2 * chance(2) : number < VICHRELKA_TABLE_NAMES ? 4 : 6);
+        memset(bytes + 1, number < VICHRELKA_TABLE_NAMES ? 0 : (int)number, 16);
+        bytes[4] = (uint8_t)number;
+        put_reverse(slot, 0, bytes, 17);
+        break;
+    default:
+        bytes[0] = (uint8_t)chance(one_in(2) ? 8 : 256);
+        put_reverse(slot, one_in(3) ? chance(VICHRELKA_REVERSE_SLOT_LEN) : FIELDS[chance(COUNT)], bytes, 1);
+    }
+}
+
+static void put_ptr(void)
+{
+    uint8_t choice = (uint8_t)(16 | chance(2) << 2 | (one_in(8) ? 32 : 0) | (one_in(40) ? 128 : 0));
+    put(PTR_STEP);
+    put(choice);
+    put(0);
+    if (choice & 128)
+        put((uint8_t)chance(8));
+    if (choice & 32)
+        put((uint8_t)(one_in(2) ? 4 : chance(18)));
+    put_random(16);
+    if (one_in(8)) { /* an IPv4 address in one of IPv6 */
+        memset(input + len - 16, 0, 10);
+        memset(input + len - 6, 0xff, 2);
+    }
+    put((uint8_t)(one_in(4) ? 12 + chance(20) : one_in(4) ? 72 + chance(4) : chance(149)));
+}
+
+/* The lease or the end of a slot's name for its own client, with the address that it has or, in sides that were filled, had then */
+static void put_own(uint32_t step, uint8_t which, int then)
+{
+    put((uint8_t)step);
+    put(0);
+    put(1);
+    put(which);
+    put(then ? 1 | 16 : 1 | 8);
+    put(which);
+    if (then) {
+        put(0);
+        put_two(0);
+        put(which);
+    }
+}
+
+/* In sides that were filled with so many names: something about a slot or the name behind its address is changed, and then its lease ends */
+static void put_changed_end(uint32_t names)
+{
+    uint8_t which = (uint8_t)chance(names), letter = (uint8_t)('a' + chance(26));
+    switch (chance(4)) {
+    case 0: /* the last letter of the name behind it; from the 39th on a full label is before it */
+        put_reverse(which, VICHRELKA_REVERSE_NAME + (which < 38 ? 1 : 65), &letter, 1);
+        break;
+    case 1: /* it is kept by hand: the A alone, and no DHCID; that of another client is asked with */
+        put(PUT);
+        put_two(VICHRELKA_SLOT_LEN * which + 256);
+        put(56);
+        put(HAS_A);
+        put(0);
+        put_two(0);
+        put(which);
+        memset(input + len, 0, 51);
+        len += 51;
+        put(END_STEP);
+        put(0);
+        put(1);
+        put(which);
+        put(8);
+        put((uint8_t)(which << 2));
+        return;
+    case 2: /* the client has another address by now */
+        put_own(LEASE_STEP, which, 0);
+        input[len - 2] = 1;
+        put((uint8_t)chance(256));
+        put_own(END_STEP, which, 1);
+        return;
+    default:
+        break;
+    }
+    put_own(END_STEP, which, 0);
+}
+
+/* A lease and then the end of it, or one of them alone */
+static void put_lease(void)
+{
+    size_t at = len;
+    put_call(LEASE_STEP + chance(2));
+    if (input[at] == LEASE_STEP && one_in(3)) {
+        size_t step_len = len - at;
+        memcpy(input + len, input + at, step_len);
+        input[len] = END_STEP;
+        len += step_len;
+    }
+}
+
+static void make_lease(void)
+{
+    put_start();
+    uint32_t names = len > 0 && input[0] == FILL ? input[1] : 0, addresses = one_in(2) ? 0 : one_in(2) ? 126 + chance(3) : chance(126);
+    put(FILL_REVERSE);
+    put((uint8_t)addresses);
+    for (uint32_t pointers = chance(4); pointers > 0; pointers--)
+        put_pointer();
+    for (uint32_t steps = 1 + chance(8); steps > 0; steps--) {
+        if (one_in(48))
+            put_damage();
+        if (one_in(32))
+            put_reverse_damage();
+        if (one_in(8))
+            put_ptr();
+        else if (names > 0 && addresses >= names && one_in(3))
+            put_changed_end(names);
+        else
+            put_lease();
+    }
+    damage(one_in(16) ? 0 : len);
+}
+
 /* Targets */
 
 static const struct {
@@ -691,7 +854,7 @@ static const struct {
     target_fn *try;
     void (*make)(void);
 } targets[] = {{"message", try_message, make_message}, {"listing", try_listing, make_listing}, {"table", try_table, make_table},
-             {"name_text", try_name_text, make_name_text}, {"book", try_book, make_book}};
+             {"name_text", try_name_text, make_name_text}, {"book", try_book, make_book}, {"lease", try_lease, make_lease}};
 enum { TARGETS = sizeof targets / sizeof targets[0] };
 
 static void on_find(int number)
@@ -746,7 +909,7 @@ int main(int argc, char **argv)
     while (argc == 5 && target < TARGETS && strcmp(argv[1], targets[target].name) != 0)
         target++;
     if (argc != 5 || target == TARGETS) {
-        fprintf(stderr, "random: TARGET SEED CALLS FIND, where TARGET is message, listing, table, name_text or book\n");
+        fprintf(stderr, "random: TARGET SEED CALLS FIND, where TARGET is message, listing, table, name_text, book or lease\n");
         return 2;
     }
     uint64_t seed = strtoull(argv[2], NULL, 10), most = strtoull(argv[3], NULL, 10), inputs = 0;

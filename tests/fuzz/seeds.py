@@ -13,6 +13,7 @@ sys.path.append(str(HERE.parent))
 
 import book_edges  # noqa: E402
 import compare  # noqa: E402
+import lease_edges  # noqa: E402
 import load_edges  # noqa: E402
 import message_edges  # noqa: E402
 import name_text_edges  # noqa: E402
@@ -20,9 +21,10 @@ import table_edges  # noqa: E402
 
 PUT, SLOT, FILL, LENGTH, ADD, REMOVE, CLEAR, WRITE, LOAD, FIND, COUNT = range(11)  # as in table.c
 COME_MANY, GO_MANY, BYTES, REPLAY, TIDY, SOUND, BLOCK = 2, 3, 6, 7, 8, 9, 10  # as in book.c
+PUT_REVERSE, FILL_REVERSE, LENGTH_REVERSE, LEASE, END, PTR = 4, 6, 7, 8, 9, 10  # as in lease.c
 STEP = {"add": ADD, "remove": REMOVE, "clear": CLEAR}
 TABLE_AREA = bytes([15])  # as in listing.c
-MOST_TABLE = 20480  # as in table.c
+MOST_TABLE, MOST_REVERSE = 20480, 35456  # as in table.c and in lease.c
 MOST = 8192  # a longer input is slow to change
 
 
@@ -44,14 +46,32 @@ def listings() -> Iterator[bytes]:
             yield TABLE_AREA + edge.call.text
 
 
-def put_table(table: bytes) -> bytes:
-    """The steps that put this table where zeros were"""
+def put_area(area: bytes, put: int) -> bytes:
+    """The steps that put these bytes where zeros were"""
     steps = b""
-    for run in re.finditer(rb"(?:[^\0]|\0{1,8}(?=[^\0]))+", table):
+    for run in re.finditer(rb"(?:[^\0]|\0{1,8}(?=[^\0]))+", area):
         for at in range(run.start(), run.end(), 255):
-            part = table[at:min(at + 255, run.end())]
-            steps += bytes([PUT]) + at.to_bytes(2, "big") + bytes([len(part)]) + part
+            part = area[at:min(at + 255, run.end())]
+            steps += bytes([put]) + at.to_bytes(2, "big") + bytes([len(part)]) + part
+    return steps
+
+
+def put_table(table: bytes) -> bytes:
+    steps = put_area(table, PUT)
     return steps if len(table) == table_edges.TABLE_LENGTH else steps + bytes([LENGTH]) + len(table).to_bytes(2, "big")
+
+
+def put_reverse(reverse: bytes) -> bytes:
+    steps = put_area(reverse, PUT_REVERSE)
+    return steps if len(reverse) == lease_edges.REVERSE else steps + bytes([LENGTH_REVERSE]) + len(reverse).to_bytes(2, "big")
+
+
+def given_name(name: bytes) -> bytes:
+    return bytes([2, len(name)]) + name
+
+
+def given_client(dhcid: bytes, family: int, address: bytes) -> bytes:
+    return bytes([2 | 64 | 128 | 16 | 32, len(dhcid)]) + dhcid + bytes([family, len(address)]) + address
 
 
 def tables() -> Iterator[bytes]:
@@ -59,10 +79,10 @@ def tables() -> Iterator[bytes]:
         call = edge.call
         if any(edge.zeros) or len(call.table) > MOST_TABLE or max(len(call.name), len(call.dhcid), len(call.address), call.family) > 255:
             continue
-        name = bytes([2, len(call.name)]) + call.name
+        name = given_name(call.name)
         step = {"find": bytes([FIND]) + name, "count": bytes([COUNT])}.get(call.word) or bytes([STEP[call.word], call.policy & 1]) + name
         if call.word in ("add", "remove"):
-            step += bytes([2 | 64 | 128 | 16 | 32, len(call.dhcid)]) + call.dhcid + bytes([call.family, len(call.address)]) + call.address
+            step += given_client(call.dhcid, call.family, call.address)
         yield put_table(call.table) + step + bytes([WRITE, 0, 0, LOAD, 0])
     for edge in load_edges.read_edges():
         if edge.call.word != "load" and not any(edge.zeros) and len(edge.call.table) <= MOST_TABLE:
@@ -95,11 +115,28 @@ def books() -> Iterator[bytes]:
             slots = [call.table[at:at + 312] for at in range(0, len(call.table), 312) if any(call.table[at:at + 312])]
             blocks = [at.to_bytes(4, "big") + b"\1" + slot + bytes(163) for at, slot in enumerate(slots)]
             book = b"".join(block + hashlib.sha256(block).digest() for block in blocks)
-            yield put_book(book) + bytes([BLOCK, 4, 2, len(call.name)]) + call.name + number + (call.out % 1024).to_bytes(2, "big")
+            yield put_book(book) + bytes([BLOCK, 4]) + given_name(call.name) + number + (call.out % 1024).to_bytes(2, "big")
+
+
+def leases() -> Iterator[bytes]:
+    # the lease and the end of the first name, with what its slot has
+    ask = bytes([LEASE, 0, 1, 0, 1 | 8, 0, END, 0, 1, 0, 1 | 8, 0])
+    for names, addresses in ((1, 1), (64, 64), (64, 127), (64, 128), (63, 128)):
+        yield bytes([FILL, names, FILL_REVERSE, addresses]) + ask
+    for edge in lease_edges.read_edges():
+        call = edge.call
+        if any(edge.zeros) or call.cut is not None or max(len(call.name), len(call.dhcid), len(call.address), call.family) > 255:
+            continue
+        client = given_client(call.dhcid, call.family, call.address)
+        if call.word == "ptr":
+            yield bytes([PTR]) + client + bytes([min(call.out, 148)])
+        elif len(call.table) <= MOST_TABLE and len(call.reverse) <= MOST_REVERSE:
+            step = bytes([LEASE if call.word == "lease" else END, call.policy & 1]) + given_name(call.name) + client
+            yield put_table(call.table) + put_reverse(call.reverse) + step
 
 
 if __name__ == "__main__":
     target, folder = sys.argv[1], pathlib.Path(sys.argv[2])
-    for number, seed in enumerate({"message": messages, "listing": listings, "table": tables, "name_text": names, "book": books}[target]()):
+    for number, seed in enumerate({"message": messages, "listing": listings, "table": tables, "name_text": names, "book": books, "lease": leases}[target]()):
         if len(seed) <= MOST:
             (folder / ("seed-%04d" % number)).write_bytes(seed)

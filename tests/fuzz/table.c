@@ -8,63 +8,9 @@ enum step { PUT, SLOT, FILL, LENGTH, ADD_STEP, REMOVE_STEP, CLEAR_STEP, WRITE_ST
 /* a table that is longer than it should be has to have room */
 enum { MOST_CALLS = 12, MOST_TABLE = 20480 };
 
-struct step_arguments {
-    uint8_t name_bytes[NAME_LIMIT + 1], dhcid_bytes[VICHRELKA_DHCID_LEN], address_bytes[16];
-    struct bytes name, dhcid, address;
-    uint32_t family, policy;
-};
-
 static uint8_t table[MOST_TABLE], plain_table[MOST_TABLE], listing[VICHRELKA_WRITTEN_LIMIT + 64];
 static size_t table_len;
 static struct room table_room, name_room, dhcid_room, address_room, text_room, out_room;
-
-static struct slot *slot_at(size_t number)
-{
-    return (struct slot *)table + number % VICHRELKA_TABLE_NAMES;
-}
-
-/* Slots */
-
-static void put_slot(struct input *in)
-{
-    int number = 0;
-    while (number < VICHRELKA_TABLE_NAMES - 1 && slot_at((size_t)number)->len != 0)
-        number++;
-    struct slot *s = slot_at((size_t)number);
-    take_slot(in, s);
-}
-
-/* So many names with a client each; the last ones end alike */
-static void fill_table(uint8_t names)
-{
-    memset(table, 0, sizeof table);
-    for (size_t i = 0; i < (size_t)names % (VICHRELKA_TABLE_NAMES + 1); i++)
-        *slot_at(i) = numbered_slot(i);
-}
-
-/* Arguments */
-
-static void take_client(struct input *in, struct step_arguments *a)
-{
-    uint8_t choice = take(in), which = take(in);
-    const struct slot *s = slot_at(which);
-    a->dhcid = (struct bytes){a->dhcid_bytes, sizeof a->dhcid_bytes, 0};
-    if (choice & 1)
-        memcpy(a->dhcid_bytes, s->dhcid, sizeof s->dhcid);
-    else if (choice & 2)
-        a->dhcid = take_slice(in, choice & 64 ? which : VICHRELKA_DHCID_LEN);
-    else
-        small_dhcid(which, a->dhcid_bytes);
-    a->family = choice & 128 ? take(in) : choice & 4 ? 6 : 4;
-    size_t address_len = a->family == 4 ? 4 : 16;
-    a->address = (struct bytes){a->address_bytes, address_len, 0};
-    if (choice & 8)
-        memcpy(a->address_bytes, a->family == 4 ? s->a : s->aaaa, address_len);
-    else if (choice & 16)
-        a->address = take_slice(in, choice & 32 ? take(in) : address_len);
-    else
-        memset(a->address_bytes, take(in), address_len);
-}
 
 /* Calls */
 
@@ -194,10 +140,11 @@ void try_table(const uint8_t *input, size_t len)
             break;
         }
         case SLOT:
-            put_slot(&in);
+            put_slot(&in, table);
             break;
         case FILL:
-            fill_table(take(&in));
+            memset(table, 0, sizeof table);
+            fill_table(take(&in), table);
             break;
         case LENGTH:
             table_len = take_two(&in) % (MOST_TABLE + 1);
@@ -222,7 +169,7 @@ void try_table(const uint8_t *input, size_t len)
             a.policy = policy & 2 ? policy : policy & 1;
             a.name = take_name(&in, table, a.name_bytes);
             if (step != CLEAR_STEP)
-                take_client(&in, &a);
+                take_client(&in, table, &a);
             call_step(step, &a);
         }
         }
