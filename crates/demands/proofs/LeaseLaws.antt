@@ -18,7 +18,6 @@ use Rattle.base.proofs.OrderLaws.{fault-before}
 use Rattle.base.proofs.Tests.{by-ltb}
 use Rattle.name.specs.Name.{canonical}
 use Rattle.slots.specs.Entry.{familyOf}
-use Rattle.slots.specs.Form.{Sound}
 use Rattle.slots.specs.Sizes.{mostNames}
 use Rattle.slots.specs.declared.Family.{Family}
 use Rattle.table.proofs.CaseLaws.{add-case, remove-case}
@@ -169,5 +168,5 @@ end-mended h g name dhcid family address k h₁ g₁ o r b c told =
       answer = o .answer;
       uncut = subst (λ (y : List ℕ). Ends mostNames mostAddresses h g name dhcid family address (o .answer) b y) (sym (a .1))
           (subst (λ (y : List ℕ). Ends mostNames mostAddresses h g name dhcid family address (o .answer) y (o .reverse)) (sym (a .0)) (o .uncut));
-      second = (told .0, told .1, told .2, subst (λ (y : List ℕ). (s : Sound mostNames y) → SecondEnd (canonical name) (s .table) k (o .answer) (told .0)) (sym (a .0)) (a .2));
+      second = (told .0, told .1, told .2, subst (λ (y : List ℕ). SecondEnd mostNames (canonical name) y k (o .answer) (told .0)) (sym (a .0)) (a .2));
     }

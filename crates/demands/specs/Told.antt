@@ -14,7 +14,6 @@ use Rattle.listing.specs.Giving.{StepIs}
 use Rattle.listing.specs.declared.Step.{Step}
 use Rattle.name.specs.Name.{canonical}
 use Rattle.name_text.specs.Calls.{ReadsText, WritesText}
-use Rattle.slots.specs.Form.{Sound}
 use Rattle.table.specs.Calls.{Adds, Removes, Clears, Finds, Counts}
 use Rattle.table.specs.Demand2.{SoundAdd, SoundRemove, SoundClear}
 use Rattle.records.specs.Calls.{Writes, Loads}
@@ -142,4 +141,4 @@ pub record LeaseMended (h g name dhcid : List ℕ) (family : ℕ) (address : Lis
 pub record EndMended (h g name dhcid : List ℕ) (family : ℕ) (address : List ℕ) (k r : ℕ) (h′ g′ : List ℕ) : Type 0 where
   pub answer : Answer
   pub uncut : Ends 64 128 h g name dhcid family address answer h′ g′
-  pub second : Tells r (λ a. (s : Sound 64 h′) → SecondEnd (canonical name) (s .table) k answer a)
+  pub second : Tells r (SecondEnd 64 (canonical name) h′ k answer)

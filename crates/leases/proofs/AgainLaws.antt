@@ -209,42 +209,45 @@ module _ (limit places : ℕ) (b c name dhcid : List ℕ) (family : ℕ) (addres
   end-answers : (k : ℕ) (r r₂ : Answer) (b₀ : List ℕ)
       → Again limit places (λ x y. endTests limit places x y name dhcid family address) (endPlan (canonical name) dhcid (familyOf family) address)
       (end-mendable limit places name dhcid family address) b c k r r₂ b₀
-      → (s₀ : Sound limit b₀) → SecondEnd (canonical name) (s₀ .table) k r r₂
+      → SecondEnd limit (canonical name) b₀ k r r₂
   unfolding writtenFirst
-  end-answers k r r₂ b₀ (Again.faulty n a same) s₀ = subst (SecondEnd (canonical name) (s₀ .table) k r) (sym same) (SecondEnd.refused a)
-  end-answers k r r₂ b₀ (Again.planned hold t u a second left) s₀ = by-answer r refused-then (λ v e. accepted-then v e k refl)
+  end-answers k r r₂ b₀ (Again.faulty n a same) = subst (SecondEnd limit (canonical name) b₀ k r) (sym same) (SecondEnd.refused a)
+  end-answers k r r₂ b₀ (Again.planned hold t u a second left) = by-answer r refused-then (λ v e. accepted-then v e k refl)
     where
       step : ℕ → Answer
       step n = endPlan (canonical name) dhcid (familyOf family) address (after n (endPlan (canonical name) dhcid (familyOf family) address (sidesOf t u)) (sidesOf t u)) .answer
 
-      left-table : s₀ .table ≡ uncut (endPlan (canonical name) dhcid (familyOf family) address (sidesOf t u)) (sidesOf t u) .table
-      left-table =
-          let kept = end-mendable limit places name dhcid family address .stays-sound b c hold t u 2 in
-          let both = all-done 0 (endPlan (canonical name) dhcid (familyOf family) address (sidesOf t u)) (sidesOf t u) (end-mends (canonical name) dhcid (familyOf family) address (sidesOf t u) (record { table = t .distinct; names = u .single }) .size (sidesOf t u)) in
-          one-sound-table limit b₀ s₀ (table-sound kept (left ∙ ap (λ (q : Sides). tableBytes limit (q .table)) (sym both))) ∙ ap (λ (q : Sides). q .table) both
+      both : after 2 (endPlan (canonical name) dhcid (familyOf family) address (sidesOf t u)) (sidesOf t u) ≡ uncut (endPlan (canonical name) dhcid (familyOf family) address (sidesOf t u)) (sidesOf t u)
+      both = all-done 0 (endPlan (canonical name) dhcid (familyOf family) address (sidesOf t u)) (sidesOf t u) (end-mends (canonical name) dhcid (familyOf family) address (sidesOf t u) (record { table = t .distinct; names = u .single }) .size (sidesOf t u))
 
-      refused-then : (m o : ℕ) → r ≡ Refused m o → SecondEnd (canonical name) (s₀ .table) k r r₂
+      s₀ : Sound limit b₀
+      s₀ = table-sound (end-mendable limit places name dhcid family address .stays-sound b c hold t u 2) (left ∙ ap (λ (q : Sides). tableBytes limit (q .table)) (sym both))
+
+      left-table : s₀ .table ≡ uncut (endPlan (canonical name) dhcid (familyOf family) address (sidesOf t u)) (sidesOf t u) .table
+      left-table = ap (λ (q : Sides). q .table) both
+
+      refused-then : (m o : ℕ) → r ≡ Refused m o → SecondEnd limit (canonical name) b₀ k r r₂
       refused-then m o e =
           let same = second ∙ second-end-refused (canonical name) dhcid (familyOf family) address (sidesOf t u) m o (sym a ∙ e) k ∙ sym e in
-          subst (SecondEnd (canonical name) (s₀ .table) k r) (sym same) (SecondEnd.refused e)
+          subst (SecondEnd limit (canonical name) b₀ k r) (sym same) (SecondEnd.refused e)
 
-      by-name : (v j : ℕ) → r ≡ Accepted v → k ≡ suc (suc j) → SecondAnswer (canonical name) dhcid (familyOf family) address (sidesOf t u) (step (suc (suc j))) → SecondEnd (canonical name) (s₀ .table) k r r₂
+      by-name : (v j : ℕ) → r ≡ Accepted v → k ≡ suc (suc j) → SecondAnswer (canonical name) dhcid (familyOf family) address (sidesOf t u) (step (suc (suc j))) → SecondEnd limit (canonical name) b₀ k r r₂
       by-name v j e is (SecondAnswer.gone absent answer) =
-          subst (SecondEnd (canonical name) (s₀ .table) k r) (sym (second ∙ ap step is ∙ answer)) (SecondEnd.gone e is (ap (find (canonical name)) left-table ∙ absent))
+          subst (SecondEnd limit (canonical name) b₀ k r) (sym (second ∙ ap step is ∙ answer)) (SecondEnd.gone e is s₀ (ap (find (canonical name)) left-table ∙ absent))
       by-name v j e is (SecondAnswer.kept d found answer) =
-          subst (SecondEnd (canonical name) (s₀ .table) k r) (sym (second ∙ ap step is ∙ answer)) (SecondEnd.stands e is (ap (find (canonical name)) left-table ∙ found))
+          subst (SecondEnd limit (canonical name) b₀ k r) (sym (second ∙ ap step is ∙ answer)) (SecondEnd.stands e is s₀ (ap (find (canonical name)) left-table ∙ found))
 
-      accepted-then : (v : ℕ) → r ≡ Accepted v → (j : ℕ) → k ≡ j → SecondEnd (canonical name) (s₀ .table) k r r₂
-      accepted-then v e zero is = subst (SecondEnd (canonical name) (s₀ .table) k r) (sym (second ∙ ap step is ∙ sym a)) (SecondEnd.nothing-done is)
+      accepted-then : (v : ℕ) → r ≡ Accepted v → (j : ℕ) → k ≡ j → SecondEnd limit (canonical name) b₀ k r r₂
+      accepted-then v e zero is = subst (SecondEnd limit (canonical name) b₀ k r) (sym (second ∙ ap step is ∙ sym a)) (SecondEnd.nothing-done is)
       accepted-then v e (suc zero) is =
           let same = second ∙ ap step is ∙ second-end-between (canonical name) dhcid (familyOf family) address (sidesOf t u) v (sym a ∙ e) in
-          subst (SecondEnd (canonical name) (s₀ .table) k r) (sym same) (SecondEnd.between e is)
+          subst (SecondEnd limit (canonical name) b₀ k r) (sym same) (SecondEnd.between e is)
       accepted-then v e (suc (suc j)) is =
           by-name v j e is (second-end-done (canonical name) dhcid (familyOf family) address (sidesOf t u) (record { table = t .distinct; names = u .single }) v (sym a ∙ e) j)
 
   pub end-again : (k : ℕ) (b₁ c₁ : List ℕ) (r r₂ : Answer) (b₀ c₀ b₂ c₂ : List ℕ) → Ends limit places b c name dhcid family address r b₀ c₀
       → EndCut limit places name dhcid family address k b c b₁ c₁ → Ends limit places b₁ c₁ name dhcid family address r₂ b₂ c₂
-      → (b₂ ≡ b₀) × (c₂ ≡ c₀) × ((s₀ : Sound limit b₀) → SecondEnd (canonical name) (s₀ .table) k r r₂)
+      → (b₂ ≡ b₀) × (c₂ ≡ c₀) × SecondEnd limit (canonical name) b₀ k r r₂
   unfolding Ends EndCut
   end-again k b₁ c₁ r r₂ b₀ c₀ b₂ c₂ whole cut second =
       let a =

@@ -10,6 +10,7 @@ use Rattle.base.specs.Logic.{Every}
 use Rattle.base.specs.Order.{Test, AllHold, FirstFault}
 use Rattle.base.specs.declared.Answer.{Answer}
 use Rattle.base.specs.declared.Answer.the-variants.{Accepted, Refused}
+use Rattle.base.proofs.AnswerLaws.{accepted≢refused}
 use Rattle.base.proofs.Theorems.{one-fault, no-fault}
 use Rattle.slots.specs.Form.{tableBytes, Sound}
 use Rattle.slots.proofs.Theorems.{one-sound-table}
@@ -71,6 +72,11 @@ module _ (limit places : ℕ) (ts : List Test) (b c : List ℕ) (plan : Sides �
         f .table ∙ ap (λ (s : Sides). tableBytes limit (uncut (plan s) s .table)) same ∙ sym (g .table),
         f .reverse ∙ ap (λ (s : Sides). reverseBytes places (uncut (plan s) s .names)) same ∙ sym (g .reverse),
       )
+
+  -- an accepted call has found the reverse side sound
+  pub accepted-reverse : (r : Answer) (b′ c′ : List ℕ) → CalledOn limit places ts b c plan r b′ c′ → (v : ℕ) → r ≡ Accepted v → SoundReverse places c
+  accepted-reverse r b′ c′ (inl f) v a = absurd (accepted≢refused (sym a ∙ f .answer))
+  accepted-reverse r b′ c′ (inr g) v a = g .sound-reverse
 
   -- where the tests hold, the plan was carried out, on whatever lists the sides have
   pub was-planned : (r : Answer) (b′ c′ : List ℕ) → CalledOn limit places ts b c plan r b′ c′ → AllHold ts → (t : Sound limit b) (u : SoundReverse places c)

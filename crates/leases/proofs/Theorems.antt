@@ -25,6 +25,7 @@ use Rattle.book.specs.Books.{SoundBlocks}
 use Rattle.book.specs.Calls.{BlockWritten, Replays}
 use Rattle.leases.specs.Calls.{leaseTests, Leases, Ends}
 use Rattle.leases.specs.Cuts.{LeaseCut, LeaseCuts, SecondLease, EndCut, EndCuts, SecondEnd, Stored}
+use Rattle.leases.proofs.RunLaws.{accepted-reverse}
 use Rattle.leases.proofs.LeaseLaws.{lease-adds, end-removes}
 use Rattle.leases.proofs.CallLaws.{one-leased, unleased, leases-often, leased-sound, one-ended, unended, ends-often, ended-sound}
 use Rattle.leases.proofs.AgainLaws.{lease-both-stored, lease-again, lease-one-step, lease-gives, lease-puts, lease-keeps-others, end-both-stored, end-again, end-one-step, end-takes, end-keeps-another, end-keeps-others}
@@ -120,10 +121,10 @@ module _ (limit places : ℕ) (b c name dhcid : List ℕ) (family : ℕ) (addres
   kept-end k b₁ c₁ cut u other = end-keeps-another limit places b c name dhcid family address k b₁ c₁ cut u other
 
   module _ (r : Answer) (b₀ c₀ : List ℕ) (whole : Ends limit places b c name dhcid family address r b₀ c₀) where
-    -- the answer by the table that the uncut run leaves, which is sound if there is anything to answer 33 or 34 about
+    -- the same, and the answer by the table that the uncut run leaves
     pub again-end : (k : ℕ) (b₁ c₁ : List ℕ) → EndCut limit places name dhcid family address k b c b₁ c₁
         → (r₂ : Answer) (b₂ c₂ : List ℕ) → Ends limit places b₁ c₁ name dhcid family address r₂ b₂ c₂
-        → (b₂ ≡ b₀) × (c₂ ≡ c₀) × ((s₀ : Sound limit b₀) → SecondEnd (canonical name) (s₀ .table) k r r₂)
+        → (b₂ ≡ b₀) × (c₂ ≡ c₀) × SecondEnd limit (canonical name) b₀ k r r₂
     again-end k b₁ c₁ cut r₂ b₂ c₂ second = end-again limit places b c name dhcid family address k b₁ c₁ r r₂ b₀ c₀ b₂ c₂ whole cut second
 
     pub however-often-end : (ks : List ℕ) (b₁ c₁ : List ℕ) → EndCuts limit places name dhcid family address ks b c b₁ c₁
@@ -145,17 +146,19 @@ module _ (limit places : ℕ) (b c name dhcid : List ℕ) (family : ℕ) (addres
 
 -- ---- what is stored, with K5's book
 
--- a book of k blocks replays to the table b; the call on b and a sound reverse side c is accepted and leaves the table b′; the name's block is written from b′ under the number k,
+-- a book of k blocks replays to the table b; the call on b and a reverse side c is accepted and leaves the table b′; the name's block is written from b′ under the number k,
 -- and j of its bytes are stored, a beginning or all: then the sound part of what is stored replays to the table before the step, or after it
 module _ (limit places : ℕ) (book area : List ℕ) (q : Answer) (b : List ℕ) (k : ℕ) (blocks : length book ≡ blockSize * k) (below : suc k < 2 ^ 32) (old : Replays limit book area q b)
     (done : number q ≡ 0) (name b′ out : List ℕ) (w : Answer) (left : List ℕ) (written : BlockWritten limit b′ name k out w left) (stored : number w ≡ 0) (r : Answer) (v : ℕ) (accepted : r ≡ Accepted v)
     (c c′ dhcid : List ℕ) (family : ℕ) (address : List ℕ) (j m : ℕ) (sound : SoundBlocks limit (book ++ take j (take (value w) left)) m) where
-  pub stored-lease : (policy : ℕ) → Leases limit places b c name dhcid family address policy r b′ c′ → SoundReverse places c
-      → Stored limit area b b′ (take (blockSize * m) (book ++ take j (take (value w) left))) j
-  stored-lease policy step u =
+  pub stored-lease : (policy : ℕ) → Leases limit places b c name dhcid family address policy r b′ c′ → Stored limit area b b′ (take (blockSize * m) (book ++ take j (take (value w) left))) j
+  unfolding Leases
+  stored-lease policy step =
       stored-add limit book area q b k blocks below old done name b′ out w left written stored r v accepted dhcid family address j m sound policy
-      (lease-adds limit places b c name dhcid family address r b′ c′ policy step u)
+      (lease-adds limit places b c name dhcid family address r b′ c′ policy step (accepted-reverse limit places _ b c _ r b′ c′ step v accepted))
 
-  pub stored-end : Ends limit places b c name dhcid family address r b′ c′ → SoundReverse places c → Stored limit area b b′ (take (blockSize * m) (book ++ take j (take (value w) left))) j
-  stored-end step u =
-      stored-remove limit book area q b k blocks below old done name b′ out w left written stored r v accepted dhcid family address j m sound (end-removes limit places b c name dhcid family address r b′ c′ step u)
+  pub stored-end : Ends limit places b c name dhcid family address r b′ c′ → Stored limit area b b′ (take (blockSize * m) (book ++ take j (take (value w) left))) j
+  unfolding Ends
+  stored-end step =
+      stored-remove limit book area q b k blocks below old done name b′ out w left written stored r v accepted dhcid family address j m sound
+      (end-removes limit places b c name dhcid family address r b′ c′ step (accepted-reverse limit places _ b c _ r b′ c′ step v accepted))

@@ -59,14 +59,14 @@ unfoldable pub EndCuts : ℕ → ℕ → List ℕ → List ℕ → ℕ → List 
 EndCuts limit places name dhcid family address =
     CutsOff limit places (λ b c. endTests limit places b c name dhcid family address) (endPlan (canonical name) dhcid (familyOf family) address)
 
--- what the second run answers: the same if it is refused or if nothing was done; 0 after the first step; after both 33 if the name n is gone from the entries t that an
+-- what the second run answers: the same if it is refused or if nothing was done; 0 after the first step; after both 33 if the name n is gone from the table b₀ that an
 -- uncut run leaves, and 34 if it stands there without the address
-pub data SecondEnd (n : List ℕ) (t : List TableEntry) (k : ℕ) (r : Answer) : Answer → Type 0 where
-  refused : {m o : ℕ} → r ≡ Refused m o → SecondEnd n t k r r
-  nothing-done : k ≡ 0 → SecondEnd n t k r r
-  between : {v : ℕ} → r ≡ Accepted v → k ≡ 1 → SecondEnd n t k r (Accepted 0)
-  gone : {v j : ℕ} → r ≡ Accepted v → k ≡ suc (suc j) → find n t ≡ none → SecondEnd n t k r (Refused nameNotHeld 0)
-  stands : {v j : ℕ} {e : TableEntry} → r ≡ Accepted v → k ≡ suc (suc j) → find n t ≡ some e → SecondEnd n t k r (Refused addressDiffers 0)
+pub data SecondEnd (limit : ℕ) (n b₀ : List ℕ) (k : ℕ) (r : Answer) : Answer → Type 0 where
+  refused : {m o : ℕ} → r ≡ Refused m o → SecondEnd limit n b₀ k r r
+  nothing-done : k ≡ 0 → SecondEnd limit n b₀ k r r
+  between : {v : ℕ} → r ≡ Accepted v → k ≡ 1 → SecondEnd limit n b₀ k r (Accepted 0)
+  gone : {v j : ℕ} → r ≡ Accepted v → k ≡ suc (suc j) → (s₀ : Sound limit b₀) → find n (s₀ .table) ≡ none → SecondEnd limit n b₀ k r (Refused nameNotHeld 0)
+  stands : {v j : ℕ} {e : TableEntry} → r ≡ Accepted v → k ≡ suc (suc j) → (s₀ : Sound limit b₀) → find n (s₀ .table) ≡ some e → SecondEnd limit n b₀ k r (Refused addressDiffers 0)
 
 -- ---- the forward step as a block of the book (document 02, K5), of which j bytes are stored
 
