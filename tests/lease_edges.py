@@ -10,12 +10,11 @@ from typing import Iterator, List, NamedTuple, Tuple
 
 from lease_model import Answer, Call
 from message_edges import Bytes, read_bytes
-from table_edges import read_lines, read_table
+from table_edges import read_lines, read_row, read_table
 
 PATH = os.path.join(os.path.dirname(os.path.abspath(__file__)), "lease_edges.txt")
 SLOT, REVERSE = 273, 34944
 TABLE_SLOT = 312
-WRITTEN_OUT = 200000  # a longer reverse side has zeros behind it that are not
 SHARED = (12, 40, 9, 15, 16)  # the refusals that a lease and an end have in common, before all others
 
 
@@ -29,8 +28,6 @@ class Edge(NamedTuple):
 
 # Reverse sides
 
-TOKEN = re.compile(r"\s+|\{(?P<slot>[^}]*)\}|n(?P<first>\d+)\.\.n(?P<last>\d+)(?!\S)|@(?P<at>\d+)\.(?P<offset>\d+):(?P<bytes>\S+)"
-                   r"|length:(?P<length>\d+)$|-(?!\S)")
 POINTER = re.compile(r"\s*(?P<family>\d+)\s+(?P<address>\S.*?)\s+PTR\s+(?P<name>\S.*)")
 NUMBERED = "4 0a0000%02x PTR 'n%d.'"
 
@@ -47,25 +44,7 @@ def slot_bytes(form: str) -> bytes:
 
 
 def read_reverse(form: str) -> Bytes:
-    slots, patches, length, at = b"", [], REVERSE, 0
-    form = form.strip()
-    while at < len(form):
-        token = TOKEN.match(form, at)
-        if not token:
-            raise ValueError("no reverse side: " + form[at:])
-        at = token.end()
-        if token["slot"] is not None:
-            slots += slot_bytes(token["slot"])
-        elif token["first"]:
-            slots += b"".join(slot_bytes(NUMBERED % (number, number)) for number in range(int(token["first"]), int(token["last"]) + 1))
-        elif token["bytes"]:
-            patches.append((SLOT * int(token["at"]) + int(token["offset"]), read_bytes(token["bytes"], {}).data))
-        elif token["length"]:
-            length = int(token["length"])
-    data = slots.ljust(REVERSE, b"\0")
-    for first, patch in patches:
-        data = data[:first] + patch + data[first + len(patch):]
-    return Bytes(data.ljust(length, b"\0")[:length]) if length <= WRITTEN_OUT else Bytes(data, length - len(data))
+    return read_row(form, slot_bytes, NUMBERED, SLOT, REVERSE)
 
 
 # Lines

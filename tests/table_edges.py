@@ -2,6 +2,7 @@
 
     read_edges()            [Edge(call, zeros, answer, why), ...]
     read_table(form)        a table in the form of that file
+    read_row(form, ..)      any row of slots in that form
     read_lines(path, of)    the lines of such a file
 """
 
@@ -13,7 +14,7 @@ from message_edges import Bytes, read_bytes
 from table_model import A, AAAA, DHCID, SLOT, TABLE_LENGTH, Answer, Call
 
 PATH = os.path.join(os.path.dirname(os.path.abspath(__file__)), "table_edges.txt")
-WRITTEN_OUT = 200000  # a longer table has zeros behind it that are not
+WRITTEN_OUT = 200000  # a longer row has zeros behind it that are not
 
 
 class Edge(NamedTuple):
@@ -40,26 +41,31 @@ def slot_bytes(form: str) -> bytes:
     return SLOT.pack(len(name), name, sum(records), *(records.get(flag, b"") for flag in FLAGS.values()))
 
 
-def read_table(form: str) -> Bytes:
-    slots, patches, length, at = b"", [], TABLE_LENGTH, 0
+def read_row(form: str, slot_of: Callable[[str], bytes], numbered: str, size: int, length: int) -> Bytes:
+    """A row of slots, each of that size and read by slot_of; together they have that length, if the form names no other."""
+    slots, patches, full, at = b"", [], length, 0
     form = form.strip()
     while at < len(form):
         token = TOKEN.match(form, at)
         if not token:
-            raise ValueError("no table: " + form[at:])
+            raise ValueError("no row of slots: " + form[at:])
         at = token.end()
         if token["slot"] is not None:
-            slots += slot_bytes(token["slot"])
+            slots += slot_of(token["slot"])
         elif token["first"]:
-            slots += b"".join(slot_bytes(NUMBERED % (number, number)) for number in range(int(token["first"]), int(token["last"]) + 1))
+            slots += b"".join(slot_of(numbered % (number, number)) for number in range(int(token["first"]), int(token["last"]) + 1))
         elif token["bytes"]:
-            patches.append((SLOT.size * int(token["at"]) + int(token["offset"]), read_bytes(token["bytes"], {}).data))
+            patches.append((size * int(token["at"]) + int(token["offset"]), read_bytes(token["bytes"], {}).data))
         elif token["length"]:
             length = int(token["length"])
-    data = slots.ljust(TABLE_LENGTH, b"\0")
+    data = slots.ljust(full, b"\0")
     for first, patch in patches:
         data = data[:first] + patch + data[first + len(patch):]
     return Bytes(data.ljust(length, b"\0")[:length]) if length <= WRITTEN_OUT else Bytes(data, length - len(data))
+
+
+def read_table(form: str) -> Bytes:
+    return read_row(form, slot_bytes, NUMBERED, SLOT.size, TABLE_LENGTH)
 
 
 # Lines

@@ -103,18 +103,19 @@ ByHand n t = (e : TableEntry) × (find n t ≡ some e) × (e .holder ≡ none)
 unfoldable pub HeldBy : List ℕ → List ℕ → List TableEntry → Type 0
 HeldBy d n t = (e : TableEntry) × (find n t ≡ some e) × (e .holder ≡ some d)
 
--- Add: 12, 40, 9, 15, 16; then 32 for an unused name, 31, and 30 where the first wins
+-- what an add tests behind its arguments: 32 for an unused name, 31, and 30 where the first wins
 abbrev pub addStepTests : List ℕ → List ℕ → List ℕ → ℕ → List Test
 addStepTests b name dhcid policy =
     record { number = tableFull; holds = Of b (λ t. find (canonical name) t ≡ none → length t < 64) }
     ∷ record { number = keptByHand; holds = Of b (λ t. ByHand (canonical name) t → ⊥) }
     ∷ record { number = heldByAnother; holds = Of b (λ t. (d : List ℕ) → HeldBy d (canonical name) t → policy ≡ 0 → d ≡ dhcid) } ∷ []
 
+-- Add: 12, 40, 9, 15, 16, and those
 abbrev pub addTests : List ℕ → List ℕ → List ℕ → ℕ → List ℕ → ℕ → List Test
 addTests b name dhcid family address policy =
     argumentTests 64 (KnownFamily family × KnownPolicy policy) b name dhcid family address ++ addStepTests b name dhcid policy
 
--- Remove: 12, 40, 9, 15, 16, 33, 31, 30, 34
+-- what a remove tests behind its arguments: 33, 31, 30, 34
 abbrev pub removeStepTests : List ℕ → List ℕ → List ℕ → ℕ → List ℕ → List Test
 removeStepTests b name dhcid family address =
     record { number = nameNotHeld; holds = Of b (Stands (canonical name)) }
@@ -122,6 +123,7 @@ removeStepTests b name dhcid family address =
     ∷ record { number = heldByAnother; holds = Of b (HeldBy dhcid (canonical name)) }
     ∷ record { number = addressDiffers; holds = Of b (λ t. (e : TableEntry) → find (canonical name) t ≡ some e → addressOf (familyOf family) e ≡ some address) } ∷ []
 
+-- Remove: 12, 40, 9, 15, 16, and those
 abbrev pub removeTests : List ℕ → List ℕ → List ℕ → ℕ → List ℕ → List Test
 removeTests b name dhcid family address = argumentTests 64 (KnownFamily family) b name dhcid family address ++ removeStepTests b name dhcid family address
 

@@ -117,7 +117,7 @@ CarriedSame b out left area r after = (w : Answer) → Writes 64 b out w left �
 
 -- ---- a lease and its end on sides that are stored, cut once k of the two are stored, and then the same again (document 02, K7; docs/RULES.md, 12.5)
 
--- an uncut run on the stored bytes h and g answers a₀ and leaves b₀ and c₀; the run that was cut left h′ and g′ stored
+-- what an uncut run on the stored bytes h and g answers, and what it leaves; the run that was cut left h′ and g′ stored
 pub record LeaseCutOff (h g name dhcid : List ℕ) (family : ℕ) (address : List ℕ) (policy k : ℕ) (h′ g′ : List ℕ) : Type 0 where
   pub answer : Answer
   pub table : List ℕ
