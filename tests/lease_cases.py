@@ -20,7 +20,7 @@ import table_model
 from chance import print_lines
 from lease_model import Answer, Call, packed
 from message_cases import bad_name, some_bytes, wire, with_byte
-from table_cases import Slot, Slots, State, Step, Stock, nudged, stray, table_bytes
+from table_cases import Slot, SlotDamage, Slots, State, Step, Stock, damaged_in_one, nudged, stray, table_bytes, with_gap, with_stray
 
 BATCH = 60
 
@@ -194,12 +194,7 @@ def one_more(rng: random.Random, pointers: Pointers) -> Optional[bytes]:
 
 
 def gap(rng: random.Random, pointers: Pointers) -> Optional[bytes]:
-    if not pointers or len(pointers) == ADDRESSES:
-        return None
-    at = SLOT * rng.choice((0, len(pointers) - 1, rng.randrange(len(pointers))))
-    width = SLOT * rng.choice((1, 1, rng.randint(1, ADDRESSES - len(pointers)), ADDRESSES - len(pointers)))
-    data = reverse_bytes(pointers)
-    return data[:at] + bytes(width) + data[at:REVERSE - width]
+    return with_gap(rng, reverse_bytes(pointers), SLOT, len(pointers))
 
 
 def twice(rng: random.Random, pointers: Pointers) -> Optional[bytes]:
@@ -214,21 +209,11 @@ def twice(rng: random.Random, pointers: Pointers) -> Optional[bytes]:
 
 
 def stray_in_unused(rng: random.Random, pointers: Pointers) -> Optional[bytes]:
-    first = SLOT * len(pointers)
-    end = rng.choice((first + SLOT, REVERSE)) if first < REVERSE else first
-    return stray(rng, reverse_bytes(pointers), first, end)
+    return with_stray(rng, reverse_bytes(pointers), SLOT, len(pointers))
 
 
-def in_one(damage: Callable[[random.Random, bytes], Optional[bytes]]) -> Damage:
-    """Damage to one slot: the first, the last or any."""
-    def damaged(rng: random.Random, pointers: Pointers) -> Optional[bytes]:
-        if not pointers:
-            return None
-        at = SLOT * rng.choice((0, len(pointers) - 1, rng.randrange(len(pointers))))
-        data = reverse_bytes(pointers)
-        slot = damage(rng, data[at:at + SLOT])
-        return None if slot is None else data[:at] + slot + data[at + SLOT:]
-    return damaged
+def in_one(damage: SlotDamage) -> Damage:
+    return lambda rng, pointers: damaged_in_one(rng, reverse_bytes(pointers), SLOT, len(pointers), damage)
 
 
 def other_family(rng: random.Random, slot: bytes) -> bytes:

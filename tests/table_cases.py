@@ -304,6 +304,45 @@ def with_fault(rng: random.Random, call: Call, fault: int) -> Call:
     return call._replace(address=some_bytes(rng, rng.choice(lengths)))
 
 
+# Damage to the bytes of a row of slots of one size, of which the first `used` are used
+
+SlotDamage = Callable[[random.Random, bytes], Optional[bytes]]
+
+
+def stray(rng: random.Random, data: bytes, first: int, end: int) -> Optional[bytes]:
+    """A byte among these zeros, if there are any: their first, their last or any."""
+    if first >= end:
+        return None
+    at = rng.choice((first, end - 1, rng.randrange(first, end)))
+    return with_byte(data, at, rng.choice((1, 32, 97, 128, 255)))
+
+
+def with_gap(rng: random.Random, row: bytes, size: int, used: int) -> Optional[bytes]:
+    """Unused slots before the first, the last or any."""
+    free = len(row) // size - used
+    if not used or not free:
+        return None
+    at = size * rng.choice((0, used - 1, rng.randrange(used)))
+    width = size * rng.choice((1, 1, rng.randint(1, free), free))
+    return row[:at] + bytes(width) + row[at:len(row) - width]
+
+
+def damaged_in_one(rng: random.Random, row: bytes, size: int, used: int, damage: SlotDamage) -> Optional[bytes]:
+    """Damage to one slot: the first, the last or any."""
+    if not used:
+        return None
+    at = size * rng.choice((0, used - 1, rng.randrange(used)))
+    slot = damage(rng, row[at:at + size])
+    return None if slot is None else row[:at] + slot + row[at + size:]
+
+
+def with_stray(rng: random.Random, row: bytes, size: int, used: int) -> Optional[bytes]:
+    """A byte in the first unused slot, or in any."""
+    first = size * used
+    end = rng.choice((first + size, len(row))) if first < len(row) else first
+    return stray(rng, row, first, end)
+
+
 # Damage: functions of a table's slots that give bytes which are not sound, or None if these slots have no place for it
 
 Damage = Callable[[random.Random, Slots], Optional[bytes]]
@@ -321,32 +360,11 @@ def one_name_more(rng: random.Random, slots: Slots) -> Optional[bytes]:
 
 
 def gap(rng: random.Random, slots: Slots) -> Optional[bytes]:
-    if not slots or len(slots) == NAMES:
-        return None
-    at = SLOT * rng.choice((0, len(slots) - 1, rng.randrange(len(slots))))
-    width = SLOT * rng.choice((1, 1, rng.randint(1, NAMES - len(slots)), NAMES - len(slots)))
-    data = table_bytes(slots)
-    return data[:at] + bytes(width) + data[at:TABLE - width]
+    return with_gap(rng, table_bytes(slots), SLOT, len(slots))
 
 
-def in_one(damage: Callable[[random.Random, bytes], Optional[bytes]]) -> Damage:
-    """Damage to one slot: the first, the last or any."""
-    def damaged(rng: random.Random, slots: Slots) -> Optional[bytes]:
-        if not slots:
-            return None
-        at = SLOT * rng.choice((0, len(slots) - 1, rng.randrange(len(slots))))
-        data = table_bytes(slots)
-        slot = damage(rng, data[at:at + SLOT])
-        return None if slot is None else data[:at] + slot + data[at + SLOT:]
-    return damaged
-
-
-def stray(rng: random.Random, data: bytes, first: int, end: int) -> Optional[bytes]:
-    """A byte among these zeros, if there are any: their first, their last or any."""
-    if first >= end:
-        return None
-    at = rng.choice((first, end - 1, rng.randrange(first, end)))
-    return with_byte(data, at, rng.choice((1, 32, 97, 128, 255)))
+def in_one(damage: SlotDamage) -> Damage:
+    return lambda rng, slots: damaged_in_one(rng, table_bytes(slots), SLOT, len(slots), damage)
 
 
 def flags_high(rng: random.Random, slot: bytes) -> bytes:
@@ -403,9 +421,7 @@ def stored_dhcid(rng: random.Random, slot: bytes) -> bytes:
 
 
 def stray_in_unused(rng: random.Random, slots: Slots) -> Optional[bytes]:
-    first = SLOT * len(slots)
-    end = rng.choice((first + SLOT, TABLE)) if first < TABLE else first
-    return stray(rng, table_bytes(slots), first, end)
+    return with_stray(rng, table_bytes(slots), SLOT, len(slots))
 
 
 def twice(rng: random.Random, slots: Slots) -> Optional[bytes]:
