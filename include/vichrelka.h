@@ -3,9 +3,10 @@
  * Vichrelka: which DHCP client holds which name.
  *
  * This is the part of a site gateway that reads DHCP requests, computes DHCIDs (RFC 4701), reads and writes the
- * listing of names, and keeps the table of names, with a book for the next restart and the reverse names of the
- * addresses. Every call is proved to meet a written promise for every input, the refused ones included. The comment
- * at each call has that promise in short, docs/PROMISES.md has it in full.
+ * listing of names, and keeps the table of names, with a book for the next restart, the reverse names of the
+ * addresses, and the messages that carry it to a name server. Every call is proved to meet a written promise for every
+ * input, the refused ones included. The comment at each call has that promise in short, docs/PROMISES.md has it in
+ * full.
  *
  * Every call answers one uint64_t: keep it in one. The low half is the number of a refusal, 0 if the call was
  * accepted. The high half is the call's value if it was accepted, and an offset into what was refused if it was
@@ -51,9 +52,9 @@ extern "C" {
 
 /* The version. From 0.2.0 on the second number goes up with whatever adds a call, or changes what a call takes,
    answers or leaves, a byte form or a size. The third goes up with any other change. */
-#define VICHRELKA_VERSION "0.6.0"
+#define VICHRELKA_VERSION "0.7.0"
 #define VICHRELKA_VERSION_MAJOR 0
-#define VICHRELKA_VERSION_MINOR 6
+#define VICHRELKA_VERSION_MINOR 7
 #define VICHRELKA_VERSION_PATCH 0
 
 /* At every call: warn where its answer is dropped. Empty for a compiler that has no word for that. */
@@ -112,6 +113,10 @@ extern "C" {
 /* The most bytes that a PTR name has. */
 #define VICHRELKA_PTR_LIMIT 74
 
+/* The most bytes that an UPDATE message has, and the fewest that an answer to one has: DNS's header. */
+#define VICHRELKA_UPDATE_LIMIT 1401
+#define VICHRELKA_UPDATE_ANSWER_MIN 12
+
 /* The numbers of the refusals. A level of a DHCPv6 message is a relay's message, or the client's message, which is
    inside them all. An entry of a listing is a line, or several lines that parentheses hold together. */
 enum vichrelka_refused {
@@ -137,7 +142,8 @@ enum vichrelka_refused {
     VICHRELKA_REFUSED_NO_IDENTIFIER = 8,
     /* no name can be used: the site's is not proper, and the client's is not proper either or is not asked for; in
        add, remove, clear, find, the two calls on names in text, the block of a name, a lease and its end: the name
-       that was given is not proper */
+       that was given is not proper; in an UPDATE message: the name or the zone is not proper, or the zone is not the
+       name's last labels */
     VICHRELKA_REFUSED_NO_PROPER_NAME = 9,
     /* DHCPv6: there is a ninth relay; no more than eight may be around the client's message */
     VICHRELKA_REFUSED_TOO_MANY_RELAYS = 11,
@@ -188,7 +194,12 @@ enum vichrelka_refused {
     VICHRELKA_REFUSED_BLOCK_LENGTH = 44,
     /* the reverse side has VICHRELKA_REVERSE_NAMES addresses, and that of this lease is not among them: see "The
        reverse side" for how to make room */
-    VICHRELKA_REFUSED_REVERSE_FULL = 46
+    VICHRELKA_REFUSED_REVERSE_FULL = 46,
+    /* the bytes are not a server's answer to this UPDATE message: fewer than VICHRELKA_UPDATE_ANSWER_MIN, no response,
+       no UPDATE, or another message's number */
+    VICHRELKA_REFUSED_NOT_THE_ANSWER = 47,
+    /* the server's answer has a code other than those of enum vichrelka_code: see there for where it is */
+    VICHRELKA_REFUSED_ANOTHER_CODE = 48
 };
 
 /* The family of a DHCP message, and that of an address. */
@@ -214,6 +225,17 @@ enum vichrelka_policy {
 enum vichrelka_source {
     VICHRELKA_SOURCE_MESSAGE = 0,
     VICHRELKA_SOURCE_SITE = 1
+};
+
+/* What a name server answered to an UPDATE message: the values of vichrelka_update_answer. "Messages for a name
+   server" says what to do on each. Any other code is refusal 48: it is the low four bits of the fourth byte of the
+   server's message, and RFC 2136, 2.2, says what it means (5: the server does not let you; 9: it does not serve the
+   zone). */
+enum vichrelka_code {
+    VICHRELKA_CODE_DONE = 0,        /* NOERROR: the message was carried out; after the others nothing was changed */
+    VICHRELKA_CODE_NAME_IN_USE = 6, /* YXDOMAIN: a name that should not be in use is */
+    VICHRELKA_CODE_SET_STANDS = 7,  /* YXRRSET: a record set that should not be there is */
+    VICHRELKA_CODE_NO_SUCH_SET = 8  /* NXRRSET: a record set that should be there, and be just this, is not */
 };
 
 /* The number of the refusal; 0 if the call was accepted. */
@@ -273,6 +295,8 @@ static inline const char *vichrelka_refusal_text(uint32_t number)
     case VICHRELKA_REFUSED_WRONG_FIELD: return "a block's number or one of its fields is wrong";
     case VICHRELKA_REFUSED_BLOCK_LENGTH: return "the bytes are not whole blocks";
     case VICHRELKA_REFUSED_REVERSE_FULL: return "the reverse side has no room for another address";
+    case VICHRELKA_REFUSED_NOT_THE_ANSWER: return "the bytes are not a server's answer to this message";
+    case VICHRELKA_REFUSED_ANOTHER_CODE: return "the server's answer has another code";
     default: return "unknown refusal";
     }
 }
@@ -696,6 +720,105 @@ uint64_t vichrelka_lease_end(uint8_t *table, size_t table_len, uint8_t *reverse,
                              const uint8_t *name, size_t name_len,
                              const uint8_t *dhcid, size_t dhcid_len, uint32_t family,
                              const uint8_t *address, size_t address_len);
+
+/*
+ * Messages for a name server: UPDATE messages (RFC 2136) that carry an add under VICHRELKA_FIRST_WINS and a remove to
+ * the server of the zone. Four calls write them and a fifth reads the server's answer. They need no table, and there
+ * is no state between them: sending, receiving, signing (TSIG) and sending again are yours.
+ *
+ *     vichrelka_update_add_first       if the name is not in use: add the address and the DHCID
+ *     vichrelka_update_add_second      if its DHCID is just this: delete its addresses of the family, add this one
+ *     vichrelka_update_remove_first    if its DHCID and its address of the family are just these: delete the address
+ *     vichrelka_update_remove_second   if its DHCID is just this, and no address is left: delete the DHCID
+ *
+ * Ask the table first, and send what it accepted. What to do on each code of the answer:
+ *
+ *     an add       Send the first message. 0: done, the add's value was 0. 6: send the second. 0 is then done, the
+ *                  add's value was 1; 8 says that another client holds the name or that it is kept by hand, the add's
+ *                  30 or 31.
+ *     a remove     Send the first message. 0: send the second, and both 0 (the name is gone) and 7 (an address of the
+ *                  other family stands) are done. 8: there is nothing of this client to delete, the remove's 33, 31,
+ *                  30 or 34.
+ *     no answer    Send the same message again. If only its answer was lost, a first add now gives 6, and its second
+ *                  message 0. A first remove now gives 8: if the table accepted that remove, send the second all the
+ *                  same. It takes nothing but this client's DHCID, at a name without address. A second remove that is
+ *                  sent again may give 8 as well: the name is gone, and it is done.
+ *     refused 47   These bytes are not the answer: drop them and wait on.
+ *     refused 48   The server did not carry the message out: let a person read the code. A server may refuse names
+ *                  that are proper here, such as one with an underscore, or with a hyphen at a label's end.
+ *
+ * While every message and every answer arrives, all names are in one zone, and the server keeps to RFC 2136, its zone
+ * holds what the table holds, name by name, whatever calls were refused in between (but one: see below). So give a
+ * table one zone, and one server. The server's code decides where its zone has what no table has, such as a TXT or a
+ * CNAME beside a client's records, or the zone's own records: the table does not see them.
+ *
+ *   - Keep VICHRELKA_FIRST_WINS. A takeover, a clear, a load and a replay have no message.
+ *   - Send nothing for an add that the table refused with 32 (full): the server would take the name.
+ *   - Lifetimes are 3,600 seconds. There is no message for a PTR.
+ *   - Take a new number for each message, one that cannot be guessed, so that an answer is that of this message.
+ *   - A message of more than 512 bytes goes by TCP (RFC 1035, 4.2), with its length in two bytes before it.
+ */
+
+/*
+ * Write the first message of an add, at the beginning of out. Its value is the number of bytes written,
+ * 81 + zone_len + 3 * name_len + address_len; the bytes of out behind them stay as they are. VICHRELKA_UPDATE_LIMIT
+ * bytes of out are always enough.
+ *
+ * Name and zone are proper names in wire form, in either case, and are written in lower case and without compression.
+ * The zone is the name's last labels: the name is the zone itself, or one or more labels before it. Every message
+ * number (id) is right. The address is VICHRELKA_IPV4's or VICHRELKA_IPV6's, as in vichrelka_table_add.
+ *
+ * Refusals, in order, with place 0: 12 (family); 9 for the name, the zone, or a zone that is not the name's last
+ * labels; 15, 16; 13 for fewer bytes of out than the message has. If it is refused, nothing is written.
+ */
+VICHRELKA_NODISCARD
+uint64_t vichrelka_update_add_first(uint16_t id, const uint8_t *zone, size_t zone_len,
+                                    const uint8_t *name, size_t name_len,
+                                    const uint8_t *dhcid, size_t dhcid_len, uint32_t family,
+                                    const uint8_t *address, size_t address_len,
+                                    uint8_t *out, size_t out_len);
+
+/*
+ * Write the second message of an add: for a first one that was answered by VICHRELKA_CODE_NAME_IN_USE. All else is as
+ * in vichrelka_update_add_first.
+ */
+VICHRELKA_NODISCARD
+uint64_t vichrelka_update_add_second(uint16_t id, const uint8_t *zone, size_t zone_len,
+                                     const uint8_t *name, size_t name_len,
+                                     const uint8_t *dhcid, size_t dhcid_len, uint32_t family,
+                                     const uint8_t *address, size_t address_len,
+                                     uint8_t *out, size_t out_len);
+
+/*
+ * Write the first message of a remove. It has 81 + zone_len + 3 * name_len + 2 * address_len bytes. All else is as in
+ * vichrelka_update_add_first.
+ */
+VICHRELKA_NODISCARD
+uint64_t vichrelka_update_remove_first(uint16_t id, const uint8_t *zone, size_t zone_len,
+                                       const uint8_t *name, size_t name_len,
+                                       const uint8_t *dhcid, size_t dhcid_len, uint32_t family,
+                                       const uint8_t *address, size_t address_len,
+                                       uint8_t *out, size_t out_len);
+
+/*
+ * Write the second message of a remove: for a first one that was answered by VICHRELKA_CODE_DONE. It names no address,
+ * and has 126 + zone_len + 4 * name_len bytes. All else is as in vichrelka_update_add_first, without 12 and 16.
+ */
+VICHRELKA_NODISCARD
+uint64_t vichrelka_update_remove_second(uint16_t id, const uint8_t *zone, size_t zone_len,
+                                        const uint8_t *name, size_t name_len,
+                                        const uint8_t *dhcid, size_t dhcid_len,
+                                        uint8_t *out, size_t out_len);
+
+/*
+ * Read a server's answer to the message with this number. Its value is the code, of enum vichrelka_code. Only the
+ * first VICHRELKA_UPDATE_ANSWER_MIN bytes are looked at, and of the flags there only QR, the opcode and the code.
+ *
+ * Refusals, in order, with place 0: 47 for fewer bytes, QR 0 (no response), an opcode other than 5 (no UPDATE), or
+ * another number; 48 for a code that is none of the four. Nothing is written, whatever the answer.
+ */
+VICHRELKA_NODISCARD
+uint64_t vichrelka_update_answer(uint16_t id, const uint8_t *answer, size_t answer_len);
 
 #ifdef __cplusplus
 }

@@ -23,6 +23,11 @@
 #define ARGUMENTS_vichrelka_ptr_name (4, lent, 1, lent, 1)
 #define ARGUMENTS_vichrelka_lease (lent, 1, lent, 1, lent, 1, lent, 1, 4, lent, 1, VICHRELKA_FIRST_WINS)
 #define ARGUMENTS_vichrelka_lease_end (lent, 1, lent, 1, lent, 1, lent, 1, 4, lent, 1)
+#define ARGUMENTS_vichrelka_update_add_first (0, lent, 1, lent, 1, lent, 1, 4, lent, 1, lent, 1)
+#define ARGUMENTS_vichrelka_update_add_second ARGUMENTS_vichrelka_update_add_first
+#define ARGUMENTS_vichrelka_update_remove_first ARGUMENTS_vichrelka_update_add_first
+#define ARGUMENTS_vichrelka_update_remove_second (0, lent, 1, lent, 1, lent, 1, lent, 1)
+#define ARGUMENTS_vichrelka_update_answer (0, lent, 1)
 #define ARGUMENTS_OF(call) ARGUMENTS_##call
 #define ARGUMENTS(call) ARGUMENTS_OF(call)
 

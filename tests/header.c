@@ -72,6 +72,9 @@ static int wrong_numbers(void)
     wrong |= VICHRELKA_REFUSED_WRONG_CHECK != 42 || VICHRELKA_REFUSED_WRONG_FIELD != 43 || VICHRELKA_REFUSED_BLOCK_LENGTH != 44;
     wrong |= VICHRELKA_BLOCK_LEN != 512 || VICHRELKA_TIDIED_LIMIT != 32768;
     wrong |= VICHRELKA_REFUSED_REVERSE_FULL != 46 || VICHRELKA_REVERSE_NAMES != 128 || VICHRELKA_REVERSE_SLOT_LEN != 273 || VICHRELKA_REVERSE_LEN != 34944;
+    wrong |= VICHRELKA_REFUSED_NOT_THE_ANSWER != 47 || VICHRELKA_REFUSED_ANOTHER_CODE != 48 || VICHRELKA_UPDATE_LIMIT != 1401;
+    wrong |= VICHRELKA_UPDATE_ANSWER_MIN != 12 || VICHRELKA_CODE_DONE != 0 || VICHRELKA_CODE_NAME_IN_USE != 6 || VICHRELKA_CODE_SET_STANDS != 7;
+    wrong |= VICHRELKA_CODE_NO_SUCH_SET != 8;
     wrong |= VICHRELKA_REVERSE_ADDRESS != 1 || VICHRELKA_REVERSE_NAME_LEN != VICHRELKA_REVERSE_ADDRESS + 16;
     wrong |= VICHRELKA_REVERSE_NAME != VICHRELKA_REVERSE_NAME_LEN + 1 || VICHRELKA_REVERSE_NAME + VICHRELKA_NAME_LIMIT != VICHRELKA_REVERSE_SLOT_LEN;
     wrong |= VICHRELKA_PTR_LIMIT != 74;
@@ -99,11 +102,12 @@ static int wrong_texts(void)
         for (other = 0; other < number; other++)
             wrong |= !says(number, "unknown refusal") && says(number, vichrelka_refusal_text(other));
     }
-    wrong |= known != 32 || !says(0, "accepted") || !says(VICHRELKA_REFUSED_HELD_BY_ANOTHER, "another client holds the name");
+    wrong |= known != 34 || !says(0, "accepted") || !says(VICHRELKA_REFUSED_HELD_BY_ANOTHER, "another client holds the name");
     wrong |= !says(10, "unknown refusal") || !says(18, "unknown refusal") || !says(19, "unknown refusal") || !says(23, "unknown refusal");
     wrong |= !says(25, "unknown refusal") || !says(41, "unknown refusal") || !says(45, "unknown refusal") || !says(0xffffffffu, "unknown refusal");
     wrong |= !says(VICHRELKA_REFUSED_TABLE_NOT_SOUND, "a table or reverse side is unsound, or a book has too many names");
     wrong |= !says(VICHRELKA_REFUSED_REVERSE_FULL, "the reverse side has no room for another address");
+    wrong |= !says(VICHRELKA_REFUSED_NOT_THE_ANSWER, "the bytes are not a server's answer to this message");
     return wrong;
 }
 
@@ -378,6 +382,32 @@ static int wrong_full_and_cut(void)
     return wrong;
 }
 
+/* Document 02, K8: how long the four messages of a name are, a refusal each, and a server's answers */
+static int wrong_updates(void)
+{
+    static const uint8_t name[] = {1, 'A', 1, 'z', 0}, zone[] = {1, 'Z', 0};
+    const uint8_t *a = LEASED6, *c = CLIENT;
+    uint8_t out[VICHRELKA_UPDATE_LIMIT], answer[VICHRELKA_UPDATE_ANSWER_MIN] = {0x12, 0x34, 0xa8, 6};
+    int wrong = 0;
+
+    memset(out, 0x5a, sizeof out);
+    wrong |= vichrelka_update_add_first(0x1234, zone, 3, name, 5, c, 35, 6, a, 16, out, 114) != VICHRELKA_REFUSED_OUTPUT_SHORT || out[0] != 0x5a;
+    wrong |= vichrelka_update_add_first(0x1234, zone, 3, name, 5, c, 35, 6, a, 16, out, 115) != (uint64_t)115 << 32;
+    wrong |= out[0] != 0x12 || out[1] != 0x34 || out[2] != 0x28 || out[13] != 'z' || out[20] != 'a' || out[115] != 0x5a;
+    wrong |= vichrelka_update_add_second(0, zone, 3, name, 5, c, 35, 4, a, 4, out, sizeof out) != (uint64_t)103 << 32;
+    wrong |= vichrelka_update_remove_first(0, zone, 3, name, 5, c, 35, 4, a, 4, out, sizeof out) != (uint64_t)107 << 32;
+    wrong |= vichrelka_update_remove_second(65535, zone, 3, name, 5, c, 35, out, sizeof out) != (uint64_t)149 << 32;
+    wrong |= vichrelka_update_add_second(0, name, 5, zone, 3, c, 35, 4, a, 4, out, sizeof out) != VICHRELKA_REFUSED_NO_PROPER_NAME;
+    wrong |= vichrelka_update_remove_first(0, zone, 3, name, 5, c, 35, 5, a, 4, out, sizeof out) != VICHRELKA_REFUSED_UNKNOWN_SETTING;
+    wrong |= vichrelka_update_remove_second(0, zone, 3, name, 5, c, 34, out, sizeof out) != VICHRELKA_REFUSED_NOT_A_DHCID;
+    wrong |= vichrelka_update_answer(0x1234, answer, sizeof answer) != (uint64_t)VICHRELKA_CODE_NAME_IN_USE << 32;
+    wrong |= vichrelka_update_answer(0x1234, answer, sizeof answer - 1) != VICHRELKA_REFUSED_NOT_THE_ANSWER;
+    wrong |= vichrelka_update_answer(0x1235, answer, sizeof answer) != VICHRELKA_REFUSED_NOT_THE_ANSWER;
+    answer[3] = 5;
+    wrong |= vichrelka_update_answer(0x1234, answer, sizeof answer) != VICHRELKA_REFUSED_ANOTHER_CODE;
+    return wrong;
+}
+
 /* An answer kept in an int, which no compiler warns of unasked: a refusal is still told, and a value is 0 at the first try. */
 static int wrong_slips(void)
 {
@@ -403,5 +433,5 @@ static int wrong_slips(void)
 int main(void)
 {
     return wrong_numbers() | wrong_texts() | wrong_names() | wrong_requests() | wrong_listings() | wrong_tables() | wrong_finds()
-           | wrong_tables_as_listings() | wrong_books() | wrong_ptr_names() | wrong_leases() | wrong_full_and_cut() | wrong_slips();
+           | wrong_tables_as_listings() | wrong_books() | wrong_ptr_names() | wrong_leases() | wrong_full_and_cut() | wrong_updates() | wrong_slips();
 }

@@ -89,6 +89,10 @@ pub pairwise-on : {A B : Type 0} {R : A → B → Type 0} (l : List A) (m : List
 pairwise-on [] [] a b Pairwise.none r = Pairwise.more r Pairwise.none
 pairwise-on (x ∷ l) (y ∷ m) a b (Pairwise.more h hs) r = Pairwise.more h (pairwise-on l m a b hs r)
 
+pub pairwise-append : {A B : Type 0} {R : A → B → Type 0} {l : List A} {m : List B} {l′ : List A} {m′ : List B} → Pairwise R l m → Pairwise R l′ m′ → Pairwise R (l ++ l′) (m ++ m′)
+pairwise-append Pairwise.none k = k
+pairwise-append (Pairwise.more h hs) k = Pairwise.more h (pairwise-append hs k)
+
 -- what stands at an index has what each element has
 pub every-at : {P : ℕ → Type 0} (l : List ℕ) → Every P l → (i : ℕ) → i < length l → P (getD l i 0)
 every-at [] h i lt = absurd (omega arith)

@@ -97,3 +97,9 @@ blockLength = 44
 
 abbrev pub reverseFull : ℕ
 reverseFull = 46
+
+abbrev pub notTheAnswer : ℕ
+notTheAnswer = 47
+
+abbrev pub anotherCode : ℕ
+anotherCode = 48

@@ -63,3 +63,7 @@ pub const WRONG_FIELD: u32 = 43;
 pub const BLOCK_LENGTH: u32 = 44;
 
 pub const REVERSE_FULL: u32 = 46;
+
+pub const NOT_THE_ANSWER: u32 = 47;
+
+pub const ANOTHER_CODE: u32 = 48;

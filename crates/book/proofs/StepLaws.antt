@@ -26,7 +26,6 @@ use Rattle.slots.specs.Form.{TableEntry, WellFormed, tableBytes, IsTable, Sound
 use Rattle.slots.specs.Sizes.{slotSize}
 use Rattle.slots.specs.SlotTests.{HeldName}
 use Rattle.slots.specs.declared.Family.{Family}
-use Rattle.slots.specs.declared.Family.the-variants.{V4, V6}
 use Rattle.slots.proofs.Theorems.{one-table, table-length}
 use Rattle.slots.proofs.TableLaws.{length-table}
 use Rattle.table.specs.Steps.{StepOutcome, find}
@@ -35,7 +34,7 @@ use Rattle.table.proofs.CaseLaws.{Adding, add-case, Removing, remove-case, Clea
 use Rattle.table.proofs.DemandLaws.{add-leaves, remove-leaves, clear-leaves}
 use Rattle.table.proofs.FoundLaws.{Standing, standing}
 use Rattle.table.proofs.OthersLaws.{find-same, find-other}
-use Rattle.table.proofs.SoundLaws.{SoundEntries, keeps-name, taken-keeps-name}
+use Rattle.table.proofs.SoundLaws.{SoundEntries, keeps-name, entered-name, taken-keeps-name}
 use Rattle.book.specs.Notes.{Note, noted, after, noteBy, noteOf}
 use Rattle.book.specs.Blocks.{blockBytes, Fit, Follows, Says}
 use Rattle.book.specs.Calls.{BlockWritten, Replays}
@@ -79,13 +78,9 @@ found-named n (d ∷ t) e found = go (eqBytes (d .name) n) refl (found-named n t
 -- ---- what an accepted step does to the name's entry, as the note written after it tells
 
 module _ (t : List TableEntry) (n d : List ℕ) (f : Family) (x : List ℕ) where
-  entered-name : (g : Family) → entered n d g x .name ≡ n
-  entered-name V4 = refl
-  entered-name V6 = refl
-
   pub told-add : (limit policy : ℕ) (o : StepOutcome (List ℕ)) → Adding eqBytes t n d f x limit policy o → number (o .answer) ≡ 0 → ToldBy n t (o .table)
   told-add limit policy o (Adding.put-last found room e) z =
-      subst (λ (y : StepOutcome (List ℕ)). ToldBy n t (y .table)) (sym e) (told-appended n (entered n d f x) t found (entered-name f))
+      subst (λ (y : StepOutcome (List ℕ)). ToldBy n t (y .table)) (sym e) (told-appended n (entered n d f x) t found (entered-name n d f x))
   told-add limit policy o (Adding.full found room e) z = absurd (omega (arith, z, ap (λ (y : StepOutcome (List ℕ)). number (y .answer)) e))
   told-add limit policy o (Adding.by-hand c found holder e) z = absurd (omega (arith, z, ap (λ (y : StepOutcome (List ℕ)). number (y .answer)) e))
   told-add limit policy o (Adding.same-client c k found holder same e) z =

@@ -8,7 +8,7 @@ use native.Mathlib.Omega.{arith}
 use lib.ListN.{length, take, drop, set, length-append}
 use lib.Seq.{take-at, take-take, take-set-lt, take-suc-set, set-append-seam, drop-drop, length-take-le, drop-append-add}
 use Rattle.base.specs.Logic.{Pairwise}
-use Rattle.base.proofs.Lists.{pairwise-on, pairwise-by, drop-take}
+use Rattle.base.proofs.Lists.{pairwise-on, pairwise-append, pairwise-by, drop-take}
 use Rattle.slots.specs.Entry.{position}
 use Rattle.slots.specs.Form.{TableEntry}
 use Rattle.table.specs.Steps.{find}
@@ -25,10 +25,6 @@ module _ {A B : Type 0} {R : A → B → Type 0} where
   pub pairwise-length : {l : List A} {m : List B} → Pairwise R l m → length l ≡ length m
   pairwise-length Pairwise.none = refl
   pairwise-length (Pairwise.more h hs) = ap suc (pairwise-length hs)
-
-  pub pairwise-append : {l : List A} {m : List B} {l′ : List A} {m′ : List B} → Pairwise R l m → Pairwise R l′ m′ → Pairwise R (l ++ l′) (m ++ m′)
-  pairwise-append Pairwise.none k = k
-  pairwise-append (Pairwise.more h hs) k = Pairwise.more h (pairwise-append hs k)
 
 -- the list l is cut where p ++ b ∷ m is
 pub record Cut {A B : Type 0} (R : A → B → Type 0) (l : List A) (p : List B) (b : B) (m : List B) : Type 0 where

@@ -5,6 +5,7 @@ pub mod TableLaws
 pub mod TextLaws
 pub mod BookLaws
 pub mod LeaseLaws
+pub mod UpdateLaws
 pub mod TellLaws
 pub mod DhcidLaws
 pub mod ChangeLaws

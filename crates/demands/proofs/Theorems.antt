@@ -13,6 +13,8 @@ use Rattle.book.proofs.Theorems.{refused-block, refused-replay, refused-tidy}
 use Rattle.ptr.proofs.Theorems.{refused-ptr}
 use Rattle.reverse.specs.Sizes.{mostAddresses}
 use Rattle.leases.proofs.Theorems.{refused-lease, refused-end}
+use Rattle.update.specs.declared.Kind.the-variants.{AddFirst, AddSecond, RemoveFirst}
+use Rattle.update.proofs.Theorems.{refused-message, refused-last}
 use Rattle.demands.specs.Demand1.{Demand1, Unchanged}
 use Rattle.demands.specs.Demand2.{Demand2}
 use Rattle.demands.specs.Demand3.{Demand3}
@@ -25,6 +27,7 @@ use Rattle.demands.proofs.TableLaws.{add-in-row, remove-in-row, clear-i
 use Rattle.demands.proofs.TextLaws.{from-text-in-row, to-text-in-row}
 use Rattle.demands.proofs.BookLaws.{block-in-row, replay-in-row, tidy-in-row, sound-in-row}
 use Rattle.demands.proofs.LeaseLaws.{ptr-in-row, lease-in-row, end-in-row}
+use Rattle.demands.proofs.UpdateLaws.{message-in-row, last-in-row, answer-in-row}
 
 pub demand-1 : Demand1
 unfolding Unchanged
@@ -58,6 +61,20 @@ demand-1 =
       end = λ b c name dhcid family address a b′ c′ h.
           let stays = refused-end mostNames mostAddresses b c name dhcid family address a b′ c′ h in
           (by-order _ (end-in-row b c name dhcid family address a b′ c′ h), (λ n at e. stays n at e .0), (λ n at e. stays n at e .1));
+      add-first = λ id zone name dhcid family address out a left h. (
+        by-order _ (message-in-row id zone name dhcid AddFirst family address out a left h),
+        refused-message AddFirst id zone name dhcid family address out a left h,
+      );
+      add-second = λ id zone name dhcid family address out a left h. (
+        by-order _ (message-in-row id zone name dhcid AddSecond family address out a left h),
+        refused-message AddSecond id zone name dhcid family address out a left h,
+      );
+      remove-first = λ id zone name dhcid family address out a left h. (
+        by-order _ (message-in-row id zone name dhcid RemoveFirst family address out a left h),
+        refused-message RemoveFirst id zone name dhcid family address out a left h,
+      );
+      remove-second = λ id zone name dhcid out a left h. (by-order _ (last-in-row id zone name dhcid out a left h), refused-last id zone name dhcid out a left h);
+      answer = λ id answer a h. by-order _ (answer-in-row id answer a h);
     }
 
 pub demand-2 : Demand2

@@ -29,7 +29,10 @@ use Rattle.records.specs.Calls.{Writes, Loads}
 use Rattle.book.specs.Calls.{BlockWritten, Replays, Tidies, CountsSound}
 use Rattle.ptr.specs.Ptr.{ptrTests, PtrWritten}
 use Rattle.leases.specs.Calls.{Leases, Ends}
-use Rattle.demands.specs.Faults.{InOrder, NameFault, DhcidFault, ListingFault, RowFault, StepFault, LoadFault, fromTextTests, toTextTests, addTests, removeTests, clearTests, findTests, countTests, writeTests, blockTests, replayTests, tidyTests, leaseTests, endTests}
+use Rattle.update.specs.Calls as update
+use Rattle.update.specs.Reply.{ReadsReply}
+use Rattle.update.specs.declared.Kind.the-variants.{AddFirst, AddSecond, RemoveFirst}
+use Rattle.demands.specs.Faults.{InOrder, NameFault, DhcidFault, ListingFault, RowFault, StepFault, LoadFault, fromTextTests, toTextTests, addTests, removeTests, clearTests, findTests, countTests, writeTests, blockTests, replayTests, tidyTests, leaseTests, endTests, addMessageTests, removeMessageTests, lastMessageTests, answerTests}
 
 -- "bad input gets the refusal number that document 01 fixes" (docs/RULES.md, 2.2 and 8): the call answered a, which is a refusal exactly if its input
 -- is bad, with that number at that offset
@@ -74,3 +77,12 @@ pub record Demand1 : Type 0 where
       → Refuses (InOrder (leaseTests b c name dhcid family address policy)) a × Unchanged b b′ a × Unchanged c c′ a
   pub end : (b c name dhcid : List ℕ) (family : ℕ) (address : List ℕ) (a : Answer) (b′ c′ : List ℕ) → Ends 64 128 b c name dhcid family address a b′ c′
       → Refuses (InOrder (endTests b c name dhcid family address)) a × Unchanged b b′ a × Unchanged c c′ a
+  pub add-first : (id : ℕ) (zone name dhcid : List ℕ) (family : ℕ) (address out : List ℕ) (a : Answer) (left : List ℕ) → update.Writes AddFirst id zone name dhcid family address out a left
+      → Refuses (InOrder (addMessageTests family zone name dhcid address out)) a × Unchanged out left a
+  pub add-second : (id : ℕ) (zone name dhcid : List ℕ) (family : ℕ) (address out : List ℕ) (a : Answer) (left : List ℕ) → update.Writes AddSecond id zone name dhcid family address out a left
+      → Refuses (InOrder (addMessageTests family zone name dhcid address out)) a × Unchanged out left a
+  pub remove-first : (id : ℕ) (zone name dhcid : List ℕ) (family : ℕ) (address out : List ℕ) (a : Answer) (left : List ℕ) → update.Writes RemoveFirst id zone name dhcid family address out a left
+      → Refuses (InOrder (removeMessageTests family zone name dhcid address out)) a × Unchanged out left a
+  pub remove-second : (id : ℕ) (zone name dhcid out : List ℕ) (a : Answer) (left : List ℕ) → update.WritesLast id zone name dhcid out a left
+      → Refuses (InOrder (lastMessageTests zone name dhcid out)) a × Unchanged out left a
+  pub answer : (id : ℕ) (answer : List ℕ) (a : Answer) → ReadsReply id answer a → Refuses (InOrder (answerTests id answer)) a

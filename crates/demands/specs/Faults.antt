@@ -9,9 +9,10 @@ use mathlib.Core.Logic.{_⊎_}
 use mathlib.Core.List.{List, [], _∷_, _++_}
 use mathlib.Core.Option.{none, some}
 use lib.ListN.{length}
+use Rattle.base.specs.Dhcid.{wellFormed}
 use Rattle.base.specs.Family.{KnownFamily}
 use Rattle.base.specs.Order.{Test, FirstFault}
-use Rattle.base.specs.Refusal.{noProperName, outputShort, hashInputLong, heldByAnother, keptByHand, tableFull, nameNotHeld, addressDiffers, tableNotSound, wrongCheck, wrongField, blockLength, reverseFull}
+use Rattle.base.specs.Refusal.{noProperName, outputShort, hashInputLong, heldByAnother, keptByHand, tableFull, nameNotHeld, addressDiffers, tableNotSound, wrongCheck, wrongField, blockLength, reverseFull, unknownSetting, notADhcid, addressLength, notTheAnswer, anotherCode}
 use Rattle.name.specs.Name.{Proper, SpellsName, canonical}
 use Rattle.message.specs.Request.{identifierBytes}
 use Rattle.message.specs.declared.Request.{Request}
@@ -20,13 +21,15 @@ use Rattle.dhcid.specs.declared.Chosen.{Chosen}
 use Rattle.grammar.specs.Listing.{ResourceRecord}
 use Rattle.grammar.specs.Outcome.{accepted, refused, Checked, Answered}
 use Rattle.listing.specs.Giving.{Gives, refusal}
-use Rattle.slots.specs.Entry.{familyOf, addressOf}
+use Rattle.slots.specs.Entry.{familyOf, addressOf, addressSize}
 use Rattle.slots.specs.Form.{TableEntry, Sound}
 use Rattle.table.specs.Steps.{find}
 use Rattle.table.specs.Calls.{KnownPolicy, nameTests, argumentTests}
 use Rattle.reverse.specs.Entry.{ReverseEntry, standsAt}
 use Rattle.reverse.specs.Form.{SoundReverse}
 use Rattle.leases.specs.Calls as leases
+use Rattle.update.specs.Calls.{InZone}
+use Rattle.update.specs.Reply.{idOf, qrOf, opcodeOf, rcodeOf}
 use Rattle.records.specs.Written.{listingOf}
 use Rattle.records.specs.Calls.{loadTests}
 use Rattle.book.specs.Notes.{Note, after}
@@ -194,3 +197,41 @@ leaseTests b c name dhcid family address policy =
 -- an ended lease: 12, 40, 9, 15, 16, then remove's
 abbrev pub endTests : List ℕ → List ℕ → List ℕ → List ℕ → ℕ → List ℕ → List Test
 endTests b c name dhcid family address = leases.endTests 64 128 b c name dhcid family address ++ removeStepTests b name dhcid family address
+
+-- ---- messages for a name server (document 02, K8; docs/RULES.md, 13)
+
+-- room for so many bytes: 13
+abbrev pub roomTests : ℕ → List ℕ → List Test
+roomTests size out = record { number = outputShort; holds = size ≤ length out } ∷ []
+
+-- the messages of an address: 12 for the family, 9 for name and zone, 15, 16; then 13
+abbrev pub messageTests : ℕ → List ℕ → List ℕ → List ℕ → List ℕ → List Test
+messageTests family zone name dhcid address =
+    record { number = unknownSetting; holds = KnownFamily family }
+    ∷ record { number = noProperName; holds = InZone name zone }
+    ∷ record { number = notADhcid; holds = wellFormed dhcid ≡ true }
+    ∷ record { number = addressLength; holds = length address ≡ addressSize (familyOf family) } ∷ []
+
+-- both messages of an add
+abbrev pub addMessageTests : ℕ → List ℕ → List ℕ → List ℕ → List ℕ → List ℕ → List Test
+addMessageTests family zone name dhcid address out = messageTests family zone name dhcid address ++ roomTests (81 + length zone + 3 * length name + length address) out
+
+-- the first message of a remove
+abbrev pub removeMessageTests : ℕ → List ℕ → List ℕ → List ℕ → List ℕ → List ℕ → List Test
+removeMessageTests family zone name dhcid address out = messageTests family zone name dhcid address ++ roomTests (81 + length zone + 3 * length name + 2 * length address) out
+
+-- and the second, which has no address: 9, 15, 13
+abbrev pub holderTests : List ℕ → List ℕ → List ℕ → List Test
+holderTests zone name dhcid = record { number = noProperName; holds = InZone name zone } ∷ record { number = notADhcid; holds = wellFormed dhcid ≡ true } ∷ []
+
+abbrev pub lastMessageTests : List ℕ → List ℕ → List ℕ → List ℕ → List Test
+lastMessageTests zone name dhcid out = holderTests zone name dhcid ++ roomTests (126 + length zone + 4 * length name) out
+
+-- a server's answer: 47 for fewer than 12 bytes, no response, no UPDATE, or another number; 48 for a code other than 0, 6, 7 and 8
+abbrev pub answerTests : ℕ → List ℕ → List Test
+answerTests id answer =
+    record { number = notTheAnswer; holds = 12 ≤ length answer }
+    ∷ record { number = notTheAnswer; holds = qrOf answer ≡ 1 }
+    ∷ record { number = notTheAnswer; holds = opcodeOf answer ≡ 5 }
+    ∷ record { number = notTheAnswer; holds = idOf answer ≡ id }
+    ∷ record { number = anotherCode; holds = (rcodeOf answer ≡ 0) ⊎ (rcodeOf answer ≡ 6) ⊎ (rcodeOf answer ≡ 7) ⊎ (rcodeOf answer ≡ 8) } ∷ []

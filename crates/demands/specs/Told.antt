@@ -20,8 +20,11 @@ use Rattle.records.specs.Calls.{Writes, Loads}
 use Rattle.book.specs.Calls.{BlockWritten, Replays, Tidies, CountsSound}
 use Rattle.ptr.specs.Ptr.{ptrTests, PtrWritten}
 use Rattle.leases.specs.Calls.{Leases, Ends}
+use Rattle.update.specs.Calls as update
+use Rattle.update.specs.Reply.{ReadsReply}
+use Rattle.update.specs.declared.Kind.the-variants.{AddFirst, AddSecond, RemoveFirst}
 use Rattle.leases.specs.Cuts.{LeaseCut, SecondLease, EndCut, SecondEnd}
-use Rattle.demands.specs.Faults.{InOrder, Of, NameFault, DhcidFault, ListingFault, StepFault, LoadFault, fromTextTests, toTextTests, addTests, removeTests, clearTests, findTests, countTests, writeTests, blockTests, replayTests, tidyTests, leaseTests, endTests}
+use Rattle.demands.specs.Faults.{InOrder, Of, NameFault, DhcidFault, ListingFault, StepFault, LoadFault, fromTextTests, toTextTests, addTests, removeTests, clearTests, findTests, countTests, writeTests, blockTests, replayTests, tidyTests, leaseTests, endTests, addMessageTests, removeMessageTests, lastMessageTests, answerTests}
 use Rattle.demands.specs.Demand1.{Refuses, RefusesStep, Unchanged}
 use Rattle.demands.specs.Demand2.{IsRfc4701, SameTable, AddsClient, RemovesAddress, ClearsName}
 
@@ -104,6 +107,25 @@ LeaseTold b c name dhcid family address policy a b′ c′ =
 abbrev pub EndTold : List ℕ → List ℕ → List ℕ → List ℕ → ℕ → List ℕ → Answer → List ℕ → List ℕ → Type 0
 EndTold b c name dhcid family address a b′ c′ =
     Ends 64 128 b c name dhcid family address a b′ c′ × Refuses (InOrder (endTests b c name dhcid family address)) a × Unchanged b b′ a × Unchanged c c′ a
+
+abbrev pub AddFirstTold : ℕ → List ℕ → List ℕ → List ℕ → ℕ → List ℕ → List ℕ → Answer → List ℕ → Type 0
+AddFirstTold id zone name dhcid family address out a left =
+    update.Writes AddFirst id zone name dhcid family address out a left × Refuses (InOrder (addMessageTests family zone name dhcid address out)) a × Unchanged out left a
+
+abbrev pub AddSecondTold : ℕ → List ℕ → List ℕ → List ℕ → ℕ → List ℕ → List ℕ → Answer → List ℕ → Type 0
+AddSecondTold id zone name dhcid family address out a left =
+    update.Writes AddSecond id zone name dhcid family address out a left × Refuses (InOrder (addMessageTests family zone name dhcid address out)) a × Unchanged out left a
+
+abbrev pub RemoveFirstTold : ℕ → List ℕ → List ℕ → List ℕ → ℕ → List ℕ → List ℕ → Answer → List ℕ → Type 0
+RemoveFirstTold id zone name dhcid family address out a left =
+    update.Writes RemoveFirst id zone name dhcid family address out a left × Refuses (InOrder (removeMessageTests family zone name dhcid address out)) a × Unchanged out left a
+
+abbrev pub RemoveSecondTold : ℕ → List ℕ → List ℕ → List ℕ → List ℕ → Answer → List ℕ → Type 0
+RemoveSecondTold id zone name dhcid out a left =
+    update.WritesLast id zone name dhcid out a left × Refuses (InOrder (lastMessageTests zone name dhcid out)) a × Unchanged out left a
+
+abbrev pub AnswerTold : ℕ → List ℕ → Answer → Type 0
+AnswerTold id answer a = ReadsReply id answer a × Refuses (InOrder (answerTests id answer)) a
 
 -- the table with the bytes b was written into an output that held `out` and now holds `left`. A refusal of the write is the answer r, and the area is as it was; else as many bytes of the output as
 -- the write's value were loaded into an area that held `area` and now holds `after`, and r was answered to that

@@ -23,6 +23,11 @@ use gateway::vichrelka_table_find;
 use gateway::vichrelka_table_load;
 use gateway::vichrelka_table_remove;
 use gateway::vichrelka_table_write;
+use gateway::vichrelka_update_add_first;
+use gateway::vichrelka_update_add_second;
+use gateway::vichrelka_update_answer;
+use gateway::vichrelka_update_remove_first;
+use gateway::vichrelka_update_remove_second;
 use listing::Step;
 use reader::peek_at;
 use row::Four;
@@ -176,6 +181,60 @@ pub fn lease_end(
     ensures { λ r. ⌜ spec.ToldC r (λ a. spec.EndTold (now (table .entry)) (now (reverse .entry)) (now (name .entry)) (now (dhcid .entry)) family (now (address .entry)) a (now (table .exit)) (now (reverse .exit))) ⌝ }
 {
     vichrelka_lease_end(table, reverse, name, dhcid, family, address)
+}
+
+pub fn update_add_first(
+    id: u16,
+    zone: &[u8],
+    name: &[u8],
+    dhcid: &[u8],
+    family: u32,
+    address: &[u8],
+    out: &mut [u8],
+) -> u64
+    ensures { λ r. ⌜ spec.ToldC r (λ a. spec.AddFirstTold id (now (zone .entry)) (now (name .entry)) (now (dhcid .entry)) family (now (address .entry)) (now (out .entry)) a (now (out .exit))) ⌝ }
+{
+    vichrelka_update_add_first(id, zone, name, dhcid, family, address, out)
+}
+
+pub fn update_add_second(
+    id: u16,
+    zone: &[u8],
+    name: &[u8],
+    dhcid: &[u8],
+    family: u32,
+    address: &[u8],
+    out: &mut [u8],
+) -> u64
+    ensures { λ r. ⌜ spec.ToldC r (λ a. spec.AddSecondTold id (now (zone .entry)) (now (name .entry)) (now (dhcid .entry)) family (now (address .entry)) (now (out .entry)) a (now (out .exit))) ⌝ }
+{
+    vichrelka_update_add_second(id, zone, name, dhcid, family, address, out)
+}
+
+pub fn update_remove_first(
+    id: u16,
+    zone: &[u8],
+    name: &[u8],
+    dhcid: &[u8],
+    family: u32,
+    address: &[u8],
+    out: &mut [u8],
+) -> u64
+    ensures { λ r. ⌜ spec.ToldC r (λ a. spec.RemoveFirstTold id (now (zone .entry)) (now (name .entry)) (now (dhcid .entry)) family (now (address .entry)) (now (out .entry)) a (now (out .exit))) ⌝ }
+{
+    vichrelka_update_remove_first(id, zone, name, dhcid, family, address, out)
+}
+
+pub fn update_remove_second(id: u16, zone: &[u8], name: &[u8], dhcid: &[u8], out: &mut [u8]) -> u64
+    ensures { λ r. ⌜ spec.ToldC r (λ a. spec.RemoveSecondTold id (now (zone .entry)) (now (name .entry)) (now (dhcid .entry)) (now (out .entry)) a (now (out .exit))) ⌝ }
+{
+    vichrelka_update_remove_second(id, zone, name, dhcid, out)
+}
+
+pub fn update_answer(id: u16, answer: &[u8]) -> u64
+    ensures { λ r. ⌜ spec.ToldC r (λ a. spec.AnswerTold id (now (answer .entry)) a) ⌝ }
+{
+    vichrelka_update_answer(id, answer)
 }
 
 // A table written as a listing, and that listing loaded into another area.

@@ -1,6 +1,7 @@
 // The library's calls for C, one function each and thin: include/vichrelka.h says how C declares them, and what each answers. A slice is a pointer
 // and a length; what C owes for it is in docs/TRUST.md.
 use base::Answer;
+use update::Kind;
 ghost use Rattle.base.specs.Answer.{Tells};
 ghost use Rattle.book.specs.Calls.{BlockWritten, Replays, Tidies, CountsSound};
 ghost use Rattle.leases.specs.Calls.{Leases, Ends};
@@ -13,6 +14,9 @@ ghost use Rattle.records.specs.Calls.{Writes, Loads};
 ghost use Rattle.reverse.specs.Sizes.{mostAddresses};
 ghost use Rattle.table.specs.Calls.{Adds, Removes, Clears, Finds, Counts};
 ghost use Rattle.slots.specs.Sizes.{mostNames};
+ghost use Rattle.update.specs.Calls as update;
+ghost use Rattle.update.specs.Reply.{ReadsReply};
+ghost use Rattle.update.specs.declared.Kind.the-variants.{AddFirst, AddSecond, RemoveFirst};
 
 // uint64_t vichrelka_name(uint32_t family, uint32_t setting, const uint8_t *message, size_t message_len, const uint8_t *site, size_t site_len)
 #[no_mangle]
@@ -209,4 +213,87 @@ pub extern "C" fn vichrelka_lease_end(
     ensures { λ r. ⌜ Tells r (λ a. Ends mostNames mostAddresses (now (table .entry)) (now (reverse .entry)) (now (name .entry)) (now (dhcid .entry)) family (now (address .entry)) a (now (table .exit)) (now (reverse .exit))) ⌝ }
 {
     lease_calls::end(table, reverse, name, dhcid, family, address).for_c()
+}
+
+// uint64_t vichrelka_update_add_first(uint16_t id, const uint8_t *zone, size_t zone_len, const uint8_t *name, size_t name_len,
+//                                     const uint8_t *dhcid, size_t dhcid_len, uint32_t family, const uint8_t *address, size_t address_len, uint8_t *out, size_t out_len)
+#[no_mangle]
+pub extern "C" fn vichrelka_update_add_first(
+    id: u16,
+    zone: &[u8],
+    name: &[u8],
+    dhcid: &[u8],
+    family: u32,
+    address: &[u8],
+    out: &mut [u8],
+) -> u64
+    ensures { λ r. ⌜ Tells r (λ a. update.Writes AddFirst id (now (zone .entry)) (now (name .entry)) (now (dhcid .entry)) family (now (address .entry)) (now (out .entry)) a (now (out .exit))) ⌝ }
+{
+    update::call::write(Kind::AddFirst, id, zone, name, dhcid, family, address, out).for_c()
+}
+
+// uint64_t vichrelka_update_add_second(uint16_t id, const uint8_t *zone, size_t zone_len, const uint8_t *name, size_t name_len,
+//                                      const uint8_t *dhcid, size_t dhcid_len, uint32_t family, const uint8_t *address, size_t address_len, uint8_t *out, size_t out_len)
+#[no_mangle]
+pub extern "C" fn vichrelka_update_add_second(
+    id: u16,
+    zone: &[u8],
+    name: &[u8],
+    dhcid: &[u8],
+    family: u32,
+    address: &[u8],
+    out: &mut [u8],
+) -> u64
+    ensures { λ r. ⌜ Tells r (λ a. update.Writes AddSecond id (now (zone .entry)) (now (name .entry)) (now (dhcid .entry)) family (now (address .entry)) (now (out .entry)) a (now (out .exit))) ⌝ }
+{
+    update::call::write(Kind::AddSecond, id, zone, name, dhcid, family, address, out).for_c()
+}
+
+// uint64_t vichrelka_update_remove_first(uint16_t id, const uint8_t *zone, size_t zone_len, const uint8_t *name, size_t name_len,
+//                                        const uint8_t *dhcid, size_t dhcid_len, uint32_t family, const uint8_t *address, size_t address_len, uint8_t *out, size_t out_len)
+#[no_mangle]
+pub extern "C" fn vichrelka_update_remove_first(
+    id: u16,
+    zone: &[u8],
+    name: &[u8],
+    dhcid: &[u8],
+    family: u32,
+    address: &[u8],
+    out: &mut [u8],
+) -> u64
+    ensures { λ r. ⌜ Tells r (λ a. update.Writes RemoveFirst id (now (zone .entry)) (now (name .entry)) (now (dhcid .entry)) family (now (address .entry)) (now (out .entry)) a (now (out .exit))) ⌝ }
+{
+    update::call::write(
+        Kind::RemoveFirst,
+        id,
+        zone,
+        name,
+        dhcid,
+        family,
+        address,
+        out,
+    ).for_c()
+}
+
+// uint64_t vichrelka_update_remove_second(uint16_t id, const uint8_t *zone, size_t zone_len, const uint8_t *name, size_t name_len,
+//                                         const uint8_t *dhcid, size_t dhcid_len, uint8_t *out, size_t out_len)
+#[no_mangle]
+pub extern "C" fn vichrelka_update_remove_second(
+    id: u16,
+    zone: &[u8],
+    name: &[u8],
+    dhcid: &[u8],
+    out: &mut [u8],
+) -> u64
+    ensures { λ r. ⌜ Tells r (λ a. update.WritesLast id (now (zone .entry)) (now (name .entry)) (now (dhcid .entry)) (now (out .entry)) a (now (out .exit))) ⌝ }
+{
+    update::call::write_last(id, zone, name, dhcid, out).for_c()
+}
+
+// uint64_t vichrelka_update_answer(uint16_t id, const uint8_t *answer, size_t answer_len)
+#[no_mangle]
+pub extern "C" fn vichrelka_update_answer(id: u16, answer: &[u8]) -> u64
+    ensures { λ r. ⌜ Tells r (λ a. ReadsReply id (now (answer .entry)) a) ⌝ }
+{
+    update::reply::read(id, answer).for_c()
 }

@@ -16,7 +16,7 @@ use Rattle.table.specs.Steps.{StepOutcome, find, changed, without, add, accepte
 use Rattle.table.proofs.FoundLaws.{Standing, standing}
 use Rattle.table.proofs.CaseLaws.{Adding, add-case}
 use Rattle.table.proofs.OthersLaws.{find-changed, find-last}
-use Rattle.table.proofs.SoundLaws.{keeps-name, taken-keeps-name}
+use Rattle.table.proofs.SoundLaws.{keeps-name, entered-name, taken-keeps-name}
 
 -- ---- the forward side: the same add again changes nothing
 
@@ -40,10 +40,6 @@ refreshed-refreshed V6 x e = refl
 refreshed-taken : (d : List ℕ) (f : Family) (x : List ℕ) (e : TableEntry) → refreshed f x (takenOver d f x e) ≡ takenOver d f x e
 refreshed-taken d V4 x e = refl
 refreshed-taken d V6 x e = refl
-
-entered-name : (n d : List ℕ) (f : Family) (x : List ℕ) → entered n d f x .name ≡ n
-entered-name n d V4 x = refl
-entered-name n d V6 x = refl
 
 entered-holder : (n d : List ℕ) (f : Family) (x : List ℕ) → entered n d f x .holder ≡ some d
 entered-holder n d V4 x = refl

@@ -11,25 +11,16 @@ use Rattle.slots.specs.Effect.{deleted}
 use Rattle.slots.specs.Form.{TableEntry}
 use Rattle.slots.specs.Promise.{holding, isAddress}
 use Rattle.slots.specs.declared.Family.{Family}
-use Rattle.slots.specs.declared.Family.the-variants.{V4, V6}
 use Rattle.slots.specs.declared.Holding.the-variants.{ByThis, ByAnother}
 use Rattle.table.specs.Steps.{StepOutcome, find, changed, without, acceptedWith, refusedWith, removing, removed, removedFrom, remove}
 use Rattle.table.proofs.CaseLaws.{Removing, remove-case}
 use Rattle.table.proofs.OthersLaws.{find-changed, find-without}
-use Rattle.table.proofs.SoundLaws.{keeps-name}
+use Rattle.table.proofs.SoundLaws.{keeps-name, deleted-address, deleted-holder}
 
 -- the same remove again, where u was left: 34 where the name stands, 33 where it is gone
 pub data Afterwards (u : List TableEntry) (n d : List ℕ) (f : Family) (x : List ℕ) : Type 0 where
   kept : (c : TableEntry) → find n u ≡ some c → remove eqBytes u n d f x ≡ refusedWith 34 u → Afterwards u n d f x
   gone : find n u ≡ none → remove eqBytes u n d f x ≡ refusedWith 33 u → Afterwards u n d f x
-
-deleted-address : (f : Family) (e : TableEntry) → addressOf f (deleted f e) ≡ none
-deleted-address V4 e = refl
-deleted-address V6 e = refl
-
-deleted-holder : (f : Family) (e : TableEntry) → deleted f e .holder ≡ e .holder
-deleted-holder V4 e = refl
-deleted-holder V6 e = refl
 
 module _ (t : List TableEntry) (n d : List ℕ) (f : Family) (x : List ℕ) where
   -- of a name that does not stand

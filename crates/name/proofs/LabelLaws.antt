@@ -66,6 +66,15 @@ module _ (b : ℕ) where
       ap isLabelByte (lower-upper b e) ∙ label-byte (b + 32) upper lowercase refl refl refl)
       (λ e. ap isLabelByte (lower-other b e) ∙ h)
 
+-- and a byte that is one in lower case is one as it stands
+pub label-byte-raised : (b : ℕ) → isLabelByte (lower b) ≡ true → isLabelByte b ≡ true
+unfolding isLabelByte
+label-byte-raised b h =
+    by-case b (λ e. ap (λ (t : Bool). t || isLower b || isDigit b || eqb b 45 || eqb b 95) e) (λ e. sym (ap isLabelByte (lower-other b e)) ∙ h)
+
+pub lower-least : (b : ℕ) → b ≤ lower b
+lower-least b = by-case b (λ e. omega (arith, lower-upper b e)) (λ e. omega (arith, lower-other b e))
+
 pub label-lower : (l : List ℕ) → Label l → Label (map lower l)
 label-lower l h =
     let long : length (map lower l) ≡ length l = length-map l lower in

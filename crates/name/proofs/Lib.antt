@@ -1,6 +1,7 @@
 pub mod LabelLaws
 pub mod NameLaws
 pub mod WireLaws
+pub mod WithinLaws
 pub mod TextLaws
 pub mod LeadLaws
 pub mod ReadingLaws

@@ -1,5 +1,5 @@
 -- Laws of specs/Name.antt: what a name's wire form and text determine, and what becomes of them in canonical form. Assumes nothing.
-use Prim.Native.Nat.{ℕ, _+_}
+use Prim.Native.Nat.{ℕ, _+_, _≤_}
 use mathlib.Core.Bool.{false}
 use mathlib.Core.Path.{_≡_, refl, sym, ap, ap₂, _∙_}
 use mathlib.Core.List.{List, [], _∷_, _++_, map, head-eq-of-cons-eq, tail-eq-of-cons-eq}
@@ -14,14 +14,21 @@ use Rattle.name.proofs.LabelLaws.{lower-length, lower-lower, label-lowe
 
 -- ---- the labels are determined by the wire form, and by the text
 
-pub wire-split : (ls ms : List (List ℕ)) → Every Label ls → Every Label ms → wire ls ≡ wire ms → ls ≡ ms
+-- there is always the last zero byte
+pub wire-some : (ls : List (List ℕ)) → 1 ≤ length (wire ls)
 unfolding wire
-wire-split [] [] h k e = refl
-wire-split [] (m ∷ ms) h (Every.more km k) e = absurd (let z : 0 ≡ length m = head-eq-of-cons-eq e in omega (arith, km .some))
-wire-split (l ∷ ls) [] (Every.more hl h) k e = absurd (let z : length l ≡ 0 = head-eq-of-cons-eq e in omega (arith, hl .some))
-wire-split (l ∷ ls) (m ∷ ms) (Every.more hl h) (Every.more km k) e =
+wire-some [] = omega arith
+wire-some (l ∷ ls) = omega arith
+
+-- whatever the labels are
+pub wire-split : (ls ms : List (List ℕ)) → wire ls ≡ wire ms → ls ≡ ms
+unfolding wire
+wire-split [] [] e = refl
+wire-split [] (m ∷ ms) e = absurd (let z : 0 ≡ length (m ++ wire ms) = ap length (tail-eq-of-cons-eq e) in omega (arith, length-append m (wire ms), wire-some ms))
+wire-split (l ∷ ls) [] e = absurd (let z : length (l ++ wire ls) ≡ 0 = ap length (tail-eq-of-cons-eq e) in omega (arith, length-append l (wire ls), wire-some ls))
+wire-split (l ∷ ls) (m ∷ ms) e =
     let parts = append-split {a = l} {b = m} (head-eq-of-cons-eq e) (tail-eq-of-cons-eq e) in
-    ap₂ _∷_ (parts .0) (wire-split ls ms h k (parts .1))
+    ap₂ _∷_ (parts .0) (wire-split ls ms (parts .1))
 
 no-dot : isLabelByte 46 ≡ false
 unfolding isLabelByte isUpper isLower isDigit

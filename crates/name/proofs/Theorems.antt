@@ -15,7 +15,7 @@ use Rattle.name.proofs.DottedLaws.{textOf-wire}
 -- ---- the labels of a proper name are determined by its wire form, and by its text
 
 pub labels-of-wire : (ls ms : List (List ℕ)) → Name ls → Name ms → wire ls ≡ wire ms → ls ≡ ms
-labels-of-wire ls ms h k e = wire-split ls ms (h .labels) (k .labels) e
+labels-of-wire ls ms h k e = wire-split ls ms e
 
 pub labels-of-text : (ls ms : List (List ℕ)) → Name ls → Name ms → text ls ≡ text ms → ls ≡ ms
 labels-of-text ls ms h k e = text-split ls ms (h .labels) (k .labels) e

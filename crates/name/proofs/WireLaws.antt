@@ -8,13 +8,15 @@ use native.Mathlib.Omega.{arith}
 use lib.Dec.{leb, eqb}
 use lib.ListN.{length, getD, drop, length-drop, drop-of-length-le}
 use lib.Seq.{drop-cons}
-use borrow.Author.Tests.{eq-eqb, ne-eqb, le-leb, lt-leb, eqb-true, eqb-false, leb-true, not-true}
+use borrow.Author.Tests.{eq-eqb, ne-eqb, le-leb, lt-leb, eqb-true, eqb-false, leb-true, leb-false, not-true}
 use Rattle.base.specs.Logic.{Every, Decides}
 use Rattle.base.proofs.Lists.{no-elements}
 use Rattle.base.proofs.Tests.{and-left, and-right}
-use Rattle.name.specs.Label.{Label, isLabelByte}
-use Rattle.name.specs.Name.{wire, Proper}
+use Rattle.name.specs.Label.{Label, isLabelByte, lower}
+use Rattle.name.specs.Name.{wire, Proper, canonical}
 use Rattle.name.specs.ProperTest.{isNil, accepts, isProper}
+use Rattle.name.proofs.LabelLaws.{lower-length, lower-least, label-byte-raised}
+use Rattle.name.proofs.NameLaws.{length-canonical, getD-canonical}
 
 -- ---- what is a name is accepted
 
@@ -139,6 +141,43 @@ passes-proper n e =
 
 pub fails-proper : (n : List ℕ) → isProper n ≡ false → Proper n → ⊥
 fails-proper n e p = true≢false (sym (proper-passes n p) ∙ e)
+
+-- ---- what is proper in canonical form is proper as it stands
+
+nil-raised : (n : List ℕ) → isNil (canonical n) ≡ true → isNil n ≡ true
+unfolding canonical
+nil-raised [] f = f
+nil-raised (c ∷ n) f = f
+
+module _ (b : ℕ) (n : List ℕ) (rest : accepts b (canonical n) ≡ true → accepts b n ≡ true) where
+  by-zero : (t : Bool) → cond t (isNil (canonical n)) (leb b 63 && accepts b (canonical n)) ≡ true → cond t (isNil n) (leb b 63 && accepts b n) ≡ true
+  by-zero true f = nil-raised n f
+  by-zero false f =
+      let more = rest (and-right (leb b 63) (accepts b (canonical n)) f) in
+      λ i. and-left (leb b 63) (accepts b (canonical n)) f i && more i
+
+  -- a length is the same in canonical form, and what is none is none there
+  length-raised : accepts 0 (lower b ∷ canonical n) ≡ true → (t : Bool) → leb b 63 ≡ t → accepts 0 (b ∷ n) ≡ true
+  unfolding accepts
+  length-raised e true short = by-zero (eqb b 0) (ap (λ (l : ℕ). accepts 0 (l ∷ canonical n)) (sym (lower-length b (leb-true b 63 short))) ∙ e)
+  length-raised e false long =
+      let high : 63 < lower b = omega (arith, leb-false b 63 long, lower-least b) in
+      let zero = ne-eqb (lower b) 0 (λ z. omega (arith, high)) in
+      absurd (false≢true (sym (λ i. cond (zero i) (isNil (canonical n)) (lt-leb (lower b) 63 high i && accepts (lower b) (canonical n))) ∙ e))
+
+accepts-raised : (n : List ℕ) (k : ℕ) → accepts k (canonical n) ≡ true → accepts k n ≡ true
+unfolding accepts canonical
+accepts-raised [] k e = e
+accepts-raised (b ∷ n) (suc k) e =
+    let rest = accepts-raised n k (and-right (isLabelByte (lower b)) (accepts k (canonical n)) e) in
+    λ i. label-byte-raised b (and-left (isLabelByte (lower b)) (accepts k (canonical n)) e) i && rest i
+accepts-raised (b ∷ n) zero e = length-raised b n (accepts-raised n b) e (leb b 63) refl
+
+pub proper-raised : (n : List ℕ) → Proper (canonical n) → Proper n
+proper-raised n p =
+    decided n true (sym (accepts-raised n 0 (accepts-proper (canonical n) p)))
+    (λ z. proper-first (canonical n) p (getD-canonical n 0 ∙ ap lower z ∙ lower-length 0 (omega arith)))
+    (omega (arith, proper-short (canonical n) p, length-canonical n)) .if-true refl
 
 -- ---- the test at index i of n
 

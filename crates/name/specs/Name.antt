@@ -49,3 +49,10 @@ pub record CanonicalForm (n : List ℕ) : Type 0 where
   pub proper : Proper (canonical n)
   pub long : length (canonical n) ≡ length n
   pub again : canonical (canonical n) ≡ canonical n
+
+-- document 02, K8 (docs/RULES.md, 13.1): the name n is in the zone z if z's labels are n's last ones. The zone's own name is in it
+pub record Within (n z : List ℕ) : Type 0 where
+  pub first : List (List ℕ)
+  pub labels : List (List ℕ)
+  pub name : n ≡ wire (first ++ labels)
+  pub zone : z ≡ wire labels

@@ -147,3 +147,17 @@ pub fn matches(name: &[u8], held: &[u8]) -> bool
     }
     true
 }
+
+// Are the labels of `zone`, which may be in any case, the last ones of `name`, which is in canonical form? The lengths before them are walked over: a
+// hyphen and the digits are lengths too, so that the last bytes alone do not tell.
+pub fn is_within(name: &[u8], zone: &[u8]) -> bool
+    requires { ⌜ spec.Proper (now name) ⌝ }
+    requires { ⌜ 1 ≤ length (now zone) ⌝ }
+    ensures { λ r. ⌜ Decides r (spec.Within (now (name .entry)) (spec.canonical (now (zone .entry)))) ⌝ }
+{
+    let mut at: usize = 0;
+    while zone.len() < name.len() - at {
+        at += name[at] as usize + 1;
+    }
+    matches(zone, &name[at..])
+}

@@ -167,13 +167,13 @@ same-bytes V6 (a ∷ y) (b ∷ z) (Every.more p h) (Every.more q k) e =
     let same : a ≡ b = omega arith in
     ap₂ _∷_ same (same-bytes V6 y z h k (tail-eq-of-cons-eq (tail-eq-of-cons-eq e)))
 
-same-labels : (f g : Family) (x y : List ℕ) → Bytes x → Bytes y → ptrName f x ≡ ptrName g y → ptrLabels f x ≡ ptrLabels g y
+same-labels : (f g : Family) (x y : List ℕ) → ptrName f x ≡ ptrName g y → ptrLabels f x ≡ ptrLabels g y
 unfolding ptrName
-same-labels f g x y h k e = wire-split (ptrLabels f x) (ptrLabels g y) (all-labels f x h) (all-labels g y k) e
+same-labels f g x y e = wire-split (ptrLabels f x) (ptrLabels g y) e
 
 one-family : (f : Family) (x y : List ℕ) → Bytes x → Bytes y → ptrName f x ≡ ptrName f y → x ≡ y
 one-family f x y h k e =
-    let labels : labelsOf f (reverse x) ++ ptrLabels f [] ≡ labelsOf f (reverse y) ++ ptrLabels f [] = sym (labels-are f x) ∙ same-labels f f x y h k e ∙ labels-are f y in
+    let labels : labelsOf f (reverse x) ++ ptrLabels f [] ≡ labelsOf f (reverse y) ++ ptrLabels f [] = sym (labels-are f x) ∙ same-labels f f x y e ∙ labels-are f y in
     let bytes : reverse x ≡ reverse y =
     same-bytes f (reverse x) (reverse y) (every-reverse x h) (every-reverse y k) (append-cancel-right (labelsOf f (reverse x)) (labelsOf f (reverse y)) (ptrLabels f []) labels) in
     sym (reverse-reverse x) ∙ ap reverse bytes ∙ reverse-reverse y

@@ -30,7 +30,7 @@ use Rattle.table.specs.Calls.{Called, KnownPolicy}
 use Rattle.table.specs.Demand2.{others, Ordered, MayInstall, Installs, LeftOf, Deleted, Cleared}
 use Rattle.table.proofs.CaseLaws.{Adding, add-case, Removing, remove-case, Clearing, clear-case}
 use Rattle.table.proofs.OthersLaws.{others-changed, names-changed, find-changed, others-last, find-last, others-without, find-without}
-use Rattle.table.proofs.SoundLaws.{SoundEntries, entered-well-formed, taken-well-formed, refreshed-well-formed, deleted-well-formed, keeps-name, taken-keeps-name, sound-changed, sound-last, sound-without}
+use Rattle.table.proofs.SoundLaws.{SoundEntries, entered-well-formed, taken-well-formed, refreshed-well-formed, deleted-well-formed, keeps-name, entered-name, taken-keeps-name, sound-changed, sound-last, sound-without}
 
 -- ---- a call's answer and what it leaves are determined
 
@@ -78,10 +78,6 @@ module _ (f : Family) (x : List ℕ) (e : TableEntry) where
 taken-holder : (d : List ℕ) (f : Family) (x : List ℕ) (e : TableEntry) → takenOver d f x e .holder ≡ some d
 taken-holder d V4 x e = refl
 taken-holder d V6 x e = refl
-
-entered-name : (n d : List ℕ) (f : Family) (x : List ℕ) → entered n d f x .name ≡ n
-entered-name n d V4 x = refl
-entered-name n d V6 x = refl
 
 pub is-address : (o : Option (List ℕ)) (x : List ℕ) → isAddress o x ≡ true → o ≡ some x
 is-address none x e = absurd (false≢true e)

@@ -13,7 +13,7 @@ use Rattle.base.proofs.Lists.{every-append, map-append}
 use Rattle.base.proofs.Tests.{eq-eqBytes, ne-eqBytes}
 use Rattle.name.specs.Name.{Proper, canonical}
 use Rattle.slots.specs.Effect.{entered, refreshed, takenOver, deleted}
-use Rattle.slots.specs.Entry.{names, Distinct, addressSize, other, withAddress, withHolder}
+use Rattle.slots.specs.Entry.{names, Distinct, addressOf, addressSize, other, withAddress, withHolder}
 use Rattle.slots.specs.Form.{TableEntry, flag, flags, WellFormed}
 use Rattle.slots.specs.declared.Family.{Family}
 use Rattle.slots.specs.declared.Family.the-variants.{V4, V6}
@@ -63,9 +63,22 @@ pub keeps-name : (f : Family) (o : Option (List ℕ)) (e : TableEntry) → withA
 keeps-name V4 o e = refl
 keeps-name V6 o e = refl
 
+pub entered-name : (n d : List ℕ) (f : Family) (x : List ℕ) → entered n d f x .name ≡ n
+entered-name n d V4 x = refl
+entered-name n d V6 x = refl
+
 pub taken-keeps-name : (d : List ℕ) (f : Family) (x : List ℕ) (e : TableEntry) → takenOver d f x e .name ≡ e .name
 taken-keeps-name d V4 x e = refl
 taken-keeps-name d V6 x e = refl
+
+-- a deleted address is not there, and the holder stays
+pub deleted-address : (f : Family) (e : TableEntry) → addressOf f (deleted f e) ≡ none
+deleted-address V4 e = refl
+deleted-address V6 e = refl
+
+pub deleted-holder : (f : Family) (e : TableEntry) → deleted f e .holder ≡ e .holder
+deleted-holder V4 e = refl
+deleted-holder V6 e = refl
 
 -- ---- the entries
 

@@ -1,0 +1,12 @@
+pub mod RecordLaws
+pub mod ZoneLaws
+pub mod WithinLaws
+pub mod RuleLaws
+pub mod ExchangeLaws
+pub mod AddLaws
+pub mod RemoveLaws
+pub mod SentLaws
+pub mod HeldLaws
+pub mod BytesLaws
+pub mod CodeRows
+pub mod Theorems

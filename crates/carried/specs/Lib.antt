@@ -1,0 +1,4 @@
+pub mod Zone
+pub mod Rules
+pub mod Holds
+pub mod Sent
