@@ -248,6 +248,28 @@ static uint64_t end_call(const struct input *in)
                                in->second.len);
 }
 
+/* `bytes` is a name, and `second` its zone; the address is an AAAA */
+#define MESSAGE_CALL(which)                                                                                                                          \
+    static uint64_t which##_call(const struct input *in)                                                                                             \
+    {                                                                                                                                                \
+        return vichrelka_update_##which(1, in->second.at, in->second.len, in->bytes.at, in->bytes.len, DHCID, sizeof DHCID, VICHRELKA_IPV6, ADDRESS, \
+                                        sizeof ADDRESS, out, sizeof out);                                                                            \
+    }
+
+MESSAGE_CALL(add_first)
+MESSAGE_CALL(add_second)
+MESSAGE_CALL(remove_first)
+
+static uint64_t remove_second_call(const struct input *in)
+{
+    return vichrelka_update_remove_second(1, in->second.at, in->second.len, in->bytes.at, in->bytes.len, DHCID, sizeof DHCID, out, sizeof out);
+}
+
+static uint64_t answer_call(const struct input *in)
+{
+    return vichrelka_update_answer(1, in->bytes.at, in->bytes.len);
+}
+
 /* both sides are put back first, which takes about a hundredth of the time */
 static void put_back(void)
 {
@@ -382,7 +404,7 @@ static void try(call_fn *call, struct input *in, uint64_t want)
 
 static void say(const char *call)
 {
-    printf("%-26s %10.3f us  %s\n", call, slowest.seconds * 1e6, slowest.what);
+    printf("%-30s %10.3f us  %s\n", call, slowest.seconds * 1e6, slowest.what);
     fflush(stdout);
     slowest = (struct best){0};
 }
@@ -839,6 +861,47 @@ static void ends(void)
     say("vichrelka_lease_end");
 }
 
+/* Messages for a name server */
+
+/* zones of a name: so many of its last bytes, from a label's length on */
+static void zones(const char *whole, const char *(*text)(int), size_t last)
+{
+    memset(&in, 0, sizeof in);
+    in.what = whole;
+    in.bytes.len = wire(text(0), in.bytes.at);
+    put(&in.second, in.bytes.at + in.bytes.len - last, last);
+}
+
+static void updates(const char *what, call_fn *call)
+{
+    zones("a name of 255 bytes with labels of 63, and its last label as the zone", long_labels, 63);
+    try_accepted(call, &in);
+    zones("a name of 255 bytes with labels of 63, and the same as the zone", long_labels, 255);
+    try_accepted(call, &in);
+    zones("a name of 255 bytes with 127 labels, and its last label as the zone", one_byte_labels, 3);
+    try_accepted(call, &in);
+    zones("a name of 255 bytes with 127 labels, and the same as the zone", one_byte_labels, 255);
+    try_accepted(call, &in);
+    zones("a name of 255 bytes with 127 labels, and all but the first as the zone", one_byte_labels, 253);
+    try_accepted(call, &in);
+    in.what = "the same, and the last letter of the zone is another one (9)";
+    in.second.at[in.second.len - 2] = '_';
+    try(call, &in, VICHRELKA_REFUSED_NO_PROPER_NAME);
+    say(what);
+}
+
+static void answers(void)
+{
+    memset(&in, 0, sizeof in);
+    in.what = "an answer of 12 bytes with the code 8";
+    put(&in.bytes, "\0\1\xa8\x08\0\1\0\0\0\0\0\0", 12);
+    try(answer_call, &in, accepted(VICHRELKA_CODE_NO_SUCH_SET));
+    in.what = "the same with the code 9 (48)";
+    in.bytes.at[3] = 9;
+    try(answer_call, &in, VICHRELKA_REFUSED_ANOTHER_CODE);
+    say("vichrelka_update_answer");
+}
+
 int main(int argc, char **argv)
 {
     verbose = argc > 1 && strcmp(argv[1], "-v") == 0;
@@ -859,5 +922,10 @@ int main(int argc, char **argv)
     ptrs();
     leases();
     ends();
+    updates("vichrelka_update_add_first", add_first_call);
+    updates("vichrelka_update_add_second", add_second_call);
+    updates("vichrelka_update_remove_first", remove_first_call);
+    updates("vichrelka_update_remove_second", remove_second_call);
+    answers();
     return 0;
 }

@@ -2,7 +2,8 @@
 # The example gateway of examples/host, from C99 and again with AddressSanitizer and UBSan: the stored examples, the accident in three ways among them, then
 # damaged messages, every refusal that a command can lead to, a full table, files that are not there and lines that are no commands. Then books of names: what a
 # power cut can leave of the last block, damaged ones, too large ones, and disks that are full. Then leases and ended leases with their reverse names, cut wherever the
-# power can fail (docs/POWER.md), and a reverse side that is full or damaged. What it says is compared byte for byte, and its exit status. The DHCIDs of the examples are compared with those that Python makes from RFC 4701's definition. The words of a refusal are the
+# power can fail (docs/POWER.md), and a reverse side that is full or damaged. Then messages for a name server, compared with ones that are put together here, and every
+# code of an answer to each. What it says is compared byte for byte, and its exit status. The DHCIDs of the examples are compared with those that Python makes from RFC 4701's definition. The words of a refusal are the
 # header's: what is expected here has its number, and `...`.
 # Last line: `N passed, M failed`, counting comparisons.
 set -uo pipefail
@@ -899,6 +900,310 @@ END
   same "an ended lease on a full disk, ${host##*/}" "$out/expected" "$out/told"
   is "an ended lease on a full disk, ${host##*/}: what is left beside it" "" "$(cd "$run" && find . -name '*.new' -o -name '*.ended')"
 done
+
+# ---- messages for a name server
+
+# the messages of update.in, put together here from document 02's K8 and RFC 2136, 2.2 to 2.5, and with nothing of the library
+# wire NAME, dhcid_of RECORD: in hexadecimal, a name in wire form, and a DHCID that is in base64
+wire() {
+  local label
+  for label in ${1//./ } ""; do
+    printf '%02x' ${#label}
+    printf %s "$label" | od -An -v -tx1 | tr -d ' \n'
+  done
+}
+dhcid_of() {
+  base64 -d <<<"${1#DHCID }" | od -An -v -tx1 | tr -d ' \n'
+}
+
+# record HEAD TYPE CLASS LIFETIME DATA: a record of this head's name; update NUMBER PREREQUISITES UPDATES RECORD..: a message for the zone bay3.example.net.
+record() {
+  wire "$1.bay3.example.net."
+  printf '%04x%04x%08x%04x%s' "$2" "$3" "$4" $((${#5} / 2)) "$5"
+}
+update() {
+  printf '%04x28000001%04x%04x0000' "$1" "$2" "$3"
+  wire bay3.example.net.
+  printf 00060001
+  shift 3
+  printf %s "$@" $'\n'
+}
+
+# first_add, second_add, first_remove NUMBER HEAD DHCID TYPE ADDRESS; second_remove NUMBER HEAD DHCID. The types are 1 A, 28 AAAA, 49 DHCID and 255 ANY, the classes 1 IN,
+# 254 NONE and 255 ANY
+first_add() {
+  update "$1" 1 2 "$(record "$2" 255 254 0 "")" "$(record "$2" "$4" 1 3600 "$5")" "$(record "$2" 49 1 3600 "$3")"
+}
+second_add() {
+  update "$1" 1 2 "$(record "$2" 49 1 0 "$3")" "$(record "$2" "$4" 255 0 "")" "$(record "$2" "$4" 1 3600 "$5")"
+}
+first_remove() {
+  update "$1" 2 1 "$(record "$2" 49 1 0 "$3")" "$(record "$2" "$4" 1 0 "$5")" "$(record "$2" "$4" 254 0 "$5")"
+}
+second_remove() {
+  update "$1" 3 1 "$(record "$2" 49 1 0 "$3")" "$(record "$2" 1 254 0 "")" "$(record "$2" 28 254 0 "")" "$(record "$2" 49 254 0 "$3")"
+}
+
+acid_dhcid=$(dhcid_of "$acid") base_dhcid=$(dhcid_of "$base") feed_dhcid=$(dhcid_of "$feed")
+{
+  first_add 1 feed-1 "$feed_dhcid" 28 20010db8000000030000000000000021
+  first_add 2 feed-1 "$feed_dhcid" 1 c0000222
+  second_add 3 feed-1 "$feed_dhcid" 1 c0000222
+  first_add 4 base-1 "$base_dhcid" 1 c0000220
+  second_add 5 base-1 "$base_dhcid" 1 c0000220
+  first_remove 6 base-1 "$base_dhcid" 1 c0000220
+  first_remove 7 feed-1 "$feed_dhcid" 28 20010db8000000030000000000000021
+  second_remove 8 feed-1 "$feed_dhcid"
+  first_remove 9 feed-1 "$feed_dhcid" 1 c0000222
+  second_remove 10 feed-1 "$feed_dhcid"
+  first_add 11 acid-1 "$acid_dhcid" 1 c000021f
+  first_remove 12 acid-1 "$acid_dhcid" 1 c000021f
+  second_remove 13 acid-1 "$acid_dhcid"
+} >"$out/expected"
+is "how long the messages are" "190 178 178 178 178 182 206 244 182 244 178 182 244" "$(awk '{ print length($0) / 2 }' "$out/expected" | xargs)"
+for host in "${hosts[@]}"; do
+  rm -f "$run"/update.*[0-9]
+  (cd "$run" && exec "$host" update.in) >"$out/told" 2>&1
+  is "how many messages update.in writes, ${host##*/}" 13 "$(find "$run" -name 'update.*[0-9]' | wc -l)"
+  (cd "$run" && cat update.{1..13}) >"$out/text"
+  same "the messages of update.in, ${host##*/}" "$out/expected" "$out/text"
+done
+
+# answers of a server as N-CODE.hex, with the header alone: to the messages that are written below, with every code
+for ((i = 1; i <= 8; i++)); do
+  for ((code = 0; code < 16; code++)); do
+    printf '%04xa80%x0000000000000000\n' "$i" "$code" >"$run/$i-$code.hex"
+  done
+done
+echo 0001a800000000000000 >"$run/short-answer.hex"
+echo 000128000000000000000000 >"$run/no-response.hex"
+echo 000180000000000000000000 >"$run/no-update.hex"
+# to message 7, with every other flag set, and more behind the header than any message has
+echo "0007aff0ffffffffffffffff$(printf '%06000d' 0)" >"$run/long-answer.hex"
+nothing_waits="no message waits for an answer: after \`zone NAME FILE\` each \`request\` and \`release\` that the table accepts writes one"
+no_takeover="NOT DONE: a takeover has no message for a name server; with a zone it has to be \`set first-wins\`"
+outside="NOT DONE: the name is not in the zone of the name server, which would not take it; give the client one that is"
+unwritten="not written: look whether the folder is there, may be written and has room, and say \`again\`"
+given="acid-1.bay3.example.net.: answer 0: the name was free and is now this client's"
+renewed="acid-1.bay3.example.net.: answer 1: the client holds the name, and has this address now"
+returned="acid-1.bay3.example.net.: answer 0: the last address is gone, and the name is free"
+added="the first of an add, code 0: done, the name was not in use there and is now this client's"
+in_use="the first of an add, code 6: the name is in use there, so the second message follows"
+taken="the first of a remove, code 0: the address is gone there, so the second message follows"
+not_there="the first of a remove, code 8: there is nothing of this client to delete there; if that is news, compare the zone with \`show\`"
+gone="the second of a remove, code 0: done, the name is gone there"
+no_such_code="no server that keeps to RFC 2136 gives this code here; the message waits on; a person has to look at the server and say \`again\`"
+
+# waits NUMBER: what the host says of a step while this message waits
+waits() {
+  echo "NOT DONE: message $1 waits for its answer; say \`answered FILE\`, \`again\` to write it once more, or \`zone NAME FILE\` to give it up"
+}
+
+# other_codes NUMBER MESSAGE CODE..: what the host says of every code but these, one after the other, since the message waits on
+other_codes() {
+  local number=$1 message=$2 code
+  shift 2
+  for code in {0..15}; do
+    case " $* " in *" $code "*) continue ;; esac
+    printf '%s' "answered $number-$code.hex: message $number, the $message, code $code: "
+    case $code in
+      0 | 6 | 7 | 8) echo "$no_such_code" ;;
+      *) echo "not carried out, and waits on; a person has to read the code (RFC 2136, 2.2), mend what it says and say \`again\`: refused 48: ..." ;;
+    esac
+  done
+}
+
+cat >"$out/expected" <<END
+again: $nothing_waits
+answered 1-0.hex: $nothing_waits
+zone bay3..example.net. update: refused 9: ...
+zone . update: refused 9: ...
+zone bay3.example.net.: $wrong
+zone bay3.example.net. update update: $wrong
+again again: $wrong
+answered: $wrong
+request 4 acid-1.hex 192.0.2.31: $given
+set latest-wins: done
+zone bay3.example.net. update: $no_takeover
+set first-wins: done
+zone BAY3.example.net. update: done
+set latest-wins: $no_takeover
+set first-wins: done
+request 4 acid-1.hex 2001:db8:0:3:0:0:0:1f: acid-1.bay3.example.net.: refused 16: ...
+no message for the name server
+request 4 7-discover.hex 192.0.2.31: refused 7: ...
+request 4 acid-1.hex 192.0.2.31: $renewed
+message 1, the first of an add, 178 bytes, by UDP
+answered nowhere.hex: $lost
+answered odd.hex: $lost
+answered folder.hex: $lost
+answered empty.hex: message 1, the first of an add, waits on: refused 47: ...
+answered short-answer.hex: message 1, the first of an add, waits on: refused 47: ...
+answered no-response.hex: message 1, the first of an add, waits on: refused 47: ...
+answered no-update.hex: message 1, the first of an add, waits on: refused 47: ...
+answered 2-0.hex: message 1, the first of an add, waits on: refused 47: ...
+$(other_codes 1 "first of an add" 0 6)
+release 4 acid-1.hex 192.0.2.31: acid-1.bay3.example.net.: $(waits 1)
+answered 1-6.hex: message 1, $in_use
+message 2, the second of an add, 178 bytes, by UDP
+answered 1-6.hex: message 2, the second of an add, waits on: refused 47: ...
+$(other_codes 2 "second of an add" 0 8)
+answered 2-0.hex: message 2, the second of an add, code 0: done, the client holds the name there, and has this address now
+again: $nothing_waits
+release 4 acid-1.hex 192.0.2.31: $returned
+message 3, the first of a remove, 182 bytes, by UDP
+$(other_codes 3 "first of a remove" 0 8)
+answered 3-0.hex: message 3, $taken
+message 4, the second of a remove, 244 bytes, by UDP
+$(other_codes 4 "second of a remove" 0 7 8)
+again: message 4, the second of a remove, 244 bytes, by UDP
+answered 4-8.hex: message 4, the second of a remove, code 8: done, nothing of this client is left there
+answered 4-8.hex: $nothing_waits
+request 4 acid-1.hex 192.0.2.31: $given
+message 5, the first of an add, 178 bytes, by UDP
+zone acid-1 update: refused 9: ...
+again: message 5, the first of an add, 178 bytes, by UDP
+zone bay3.example.net. update: done
+again: $nothing_waits
+zone bay4.example.net. update: done
+request 4 base-1.hex 192.0.2.32: base-1.bay3.example.net.: $outside
+release 4 acid-1.hex 192.0.2.31: acid-1.bay3.example.net.: $outside
+zone ay3.example.net. update: done
+release 4 acid-1.hex 192.0.2.31: acid-1.bay3.example.net.: $outside
+zone acid-1.bay3.example.net. update: done
+release 4 acid-1.hex 192.0.2.31: $returned
+message 6, the first of a remove, 189 bytes, by UDP
+answered 6-8.hex: message 6, $not_there
+load full.listing: records: 64, as many as were written
+zone net. nowhere/update: done
+request 4 acid-1.hex 192.0.2.31: acid-1.bay3.example.net.: refused 32: ...
+no message for the name server
+new: done
+request 4 acid-1.hex 192.0.2.31: $given
+message 7, the first of an add, $unwritten
+again: message 7, the first of an add, $unwritten
+answered long-answer.hex: message 7, $added
+END
+told "messages and answers" 2 "$out/expected" < <(sed -n '/^message/d; s/: .*//p' "$out/expected")
+is "what a message leaves beside its file" "" "$(find "$run" -name '*.new')"
+
+# what the server refuses is a refusal, what it carries out is none: the exit status
+cat >"$out/accepted" <<END
+zone bay3.example.net. update: done
+request 4 acid-1.hex 192.0.2.31: $given
+message 1, the first of an add, 178 bytes, by UDP
+answered 1-6.hex: message 1, $in_use
+message 2, the second of an add, 178 bytes, by UDP
+END
+{
+  cat "$out/accepted"
+  cat <<END
+answered 2-0.hex: message 2, the second of an add, code 0: done, the client holds the name there, and has this address now
+release 4 acid-1.hex 192.0.2.31: $returned
+message 3, the first of a remove, 182 bytes, by UDP
+answered 3-0.hex: message 3, $taken
+message 4, the second of a remove, 244 bytes, by UDP
+answered 4-0.hex: message 4, $gone
+END
+} >"$out/expected"
+told "what the server carries out" 0 "$out/expected" < <(sed -n 's/: .*//p' "$out/expected")
+{ sed '$d' "$out/expected" && echo "answered 4-6.hex: message 4, the second of a remove, code 6: $no_such_code"; } >"$out/expected-too"
+told "a code that no server gives" 1 "$out/expected-too" < <(sed -n 's/: .*//p' "$out/expected-too")
+{ sed '9,$d' "$out/expected" && echo "answered 3-8.hex: message 3, $not_there"; } >"$out/expected-too"
+told "a remove that the server refuses" 1 "$out/expected-too" < <(sed -n 's/: .*//p' "$out/expected-too")
+{
+  cat "$out/accepted"
+  echo "answered 2-8.hex: message 2, the second of an add, code 8: another client holds the name there, or it is kept by hand; end this lease by \`release\`, or free the name \
+there and say \`request\` again"
+} >"$out/expected"
+told "an add that the server refuses" 1 "$out/expected" < <(sed -n 's/: .*//p' "$out/expected")
+
+# a message of more than 512 bytes goes by TCP, one of 512 does not: 81 bytes and the address's 4, those of the zone, and three times those of the name
+long=$(printf 'a%.0s' {1..63}).$(printf 'b%.0s' {1..63})
+cat >"$out/expected" <<END
+set site-name: done
+zone ddddd. update: done
+site $long.cccc.ddddd.: done
+request 4 acid-1.hex 192.0.2.31: $long.cccc.ddddd.: answer 0: the name was free and is now this client's
+message 1, the first of an add, 512 bytes, by UDP
+zone dddddd. update: done
+site $long.ccc.dddddd.: done
+request 4 acid-1.hex 192.0.2.31: $long.ccc.dddddd.: answer 0: the name was free and is now this client's
+message 2, the first of an add, 513 bytes, by TCP
+END
+told "long messages" 0 "$out/expected" < <(sed -n 's/: .*//p' "$out/expected")
+
+# a lease that is not stored sends nothing, since its client asks again; an ended one is kept, and does. A folder is in the place of the reverse side's other name
+rm -rf "$out/beside"
+mkdir "$out/beside"
+for book in lease ended; do
+  cp "$out/made/away.book" "$out/beside/$book.book"
+  cp "$out/made/away.book.reverse" "$out/beside/$book.book.reverse"
+  mkdir -p "$out/beside/$book.book.reverse.new/x"
+done
+cat >"$out/expected" <<END
+zone bay3.example.net. update: done
+book books/lease.book: blocks: 3, names: 2
+request 4 acid-1.hex 192.0.2.31: $renewed; $unstored
+no message for the name server
+book books/ended.book: blocks: 3, names: 2
+release 4 acid-1.hex 192.0.2.41: $returned; $unstored
+message 1, the first of a remove, 182 bytes, by UDP
+END
+books=$out/beside told "messages of what is not stored" 2 "$out/expected" < <(sed -n 's/: .*//p' "$out/expected")
+
+# a restart forgets the message that waits. An ended lease that was kept is carried after the restart, done already or not; it may have been sent before
+cat >"$out/expected" <<END
+new a.book: done; the book is begun anew, blocks: 0
+zone bay3.example.net. update: done
+cut after: done
+request 4 acid-1.hex 192.0.2.31: acid-1.bay3.example.net.: POWER CUT: both are stored; nobody was told, say \`restart\`
+no message for the name server
+zone bay3.example.net. update: $off
+restart: blocks: 1, names: 1
+request 4 acid-1.hex 192.0.2.31: $renewed; stored as block 1
+message 1, the first of an add, 178 bytes, by UDP
+restart: blocks: 2, names: 1
+again: $nothing_waits
+cut between: done
+release 4 acid-1.hex 192.0.2.31: acid-1.bay3.example.net.: POWER CUT: the first of two is stored; nobody was told, say \`restart\`
+no message for the name server
+again: $off
+restart: blocks: 2, names: 1
+an ended lease was kept, $returned; stored as block 2
+message 2, the first of a remove, 182 bytes, by UDP
+answered 2-8.hex: message 2, the first of a remove, code 8: there is nothing of this client to delete there, but an answer may have been lost, so the second message follows
+message 3, the second of a remove, 244 bytes, by UDP
+answered 3-0.hex: message 3, $gone
+request 4 acid-1.hex 192.0.2.31: $given; stored as block 3
+message 4, the first of an add, 178 bytes, by UDP
+answered 4-0.hex: message 4, $added
+cut after: done
+release 4 acid-1.hex 192.0.2.31: acid-1.bay3.example.net.: POWER CUT: both are stored; nobody was told, say \`restart\`
+no message for the name server
+restart: blocks: 5, names: 0
+an ended lease was kept, acid-1.bay3.example.net.: it was done already (33)
+message 5, the first of a remove, 182 bytes, by UDP
+answered 5-0.hex: message 5, $taken
+message 6, the second of a remove, 244 bytes, by UDP
+END
+told "messages and power cuts" 2 "$out/expected" < <(sed -n '/^an ended/d; s/: .*//p' "$out/expected")
+
+# an ended lease that was kept, and a zone after the restart that its name is not in: it is ended, and there is no message for it
+rm -rf "$run"/*.book* "$out/beside"
+mkdir "$out/beside"
+printf '%s\n' "new kept.book" "request 4 acid-1.hex 192.0.2.31" "cut before" "release 4 acid-1.hex 192.0.2.31" >"$out/text"
+(cd "$run" && exec "$top/host") <"$out/text" >"$out/told"
+is "an ended lease to be kept: status" 1 $?
+cp "$run"/kept.book* "$out/beside"
+cat >"$out/expected" <<END
+zone bay4.example.net. update: done
+book books/kept.book: blocks: 1, names: 1
+an ended lease was kept, $returned; stored as block 1
+no message for the name server: refused 9: ...
+again: $nothing_waits
+END
+books=$out/beside told "an ended lease outside the zone" 2 "$out/expected" < <(sed -n '/^an ended/d; /^no message/d; s/: .*//p' "$out/expected")
 
 # ---- lines that are no commands
 

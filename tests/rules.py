@@ -7,6 +7,7 @@
     slot       section 7.2 has the sizes and the offsets of the header
     block      section 11.1 has a block of the header's length, with the slot of section 7.2 behind number and kind
     reverse    section 12.2 has the sizes and the offsets of the header's reverse side, and section 12.1 the most bytes of a PTR name
+    messages   the lengths of the messages in section 13.2 are those of their records, and the longest is the header's; section 13.3 has its codes
     lines      no line is longer than 119 characters
 """
 
@@ -140,11 +141,34 @@ def block(files: Files) -> List[str]:
     return wrong
 
 
+def messages(files: Files) -> List[str]:
+    """A message is 16 bytes and the zone, and then for each record 10 bytes, the name and the data: nothing, an address or a DHCID of 35 bytes."""
+    text, counted, what = section(files[RULES], "13.2"), {}, ""
+    for first, data in re.findall(r"^\| ([a-z ]*)\| (?:prerequisite|update): .*\| (none|the address|the DHCID) \| [\d.]+ \|$", text, re.M):
+        what = first.strip() or what
+        fixed, names, addresses = counted.get(what, (16, 0, 0))
+        counted[what] = (fixed + 10 + 35 * (data == "the DHCID"), names + 1, addresses + (data == "the address"))
+    said = re.findall(r"^\| ([a-z ]+) \| .* \| (\d+) \+ Z \+ (\d) N( \+ (?:\d )?a)? \| ([\d,]+) \|$", text, re.M)
+    lengths = {}
+    wrong = [] if len(said) == len(counted) == 4 else ["section 13.2 does not have the records or the lengths of four messages"]
+    for what, fixed, names, addresses, longest in said:
+        has = (int(fixed), int(names), int(addresses.strip(" +a") or 1) if addresses else 0)
+        lengths[what] = int(longest.replace(",", ""))
+        if has != counted.get(what) or lengths[what] != has[0] + 255 + 255 * has[1] + 16 * has[2]:
+            wrong.append("section 13.2 has a length of the %s that is not that of its records" % what)
+    if not lengths or max(lengths.values()) != sizes_of(files)["UPDATE_LIMIT"]:
+        wrong.append("section 13.2 has another length of the longest message than the header")
+    codes = sorted(int(code) for code in re.findall(r"VICHRELKA_CODE_[A-Z_]+ = (\d+)", files[HEADER]))
+    if codes != sorted(int(code) for code in re.findall(r"^\| (\d+) \| [A-Z]+ \|", section(files[RULES], "13.3"), re.M)):
+        wrong.append("section 13.3 has other codes than the header")
+    return wrong
+
+
 def lines(files: Files) -> List[str]:
     return ["line %d has %d characters" % (number + 1, len(line)) for number, line in enumerate(files[RULES].split("\n")) if len(line) > 119]
 
 
-CHECKS: List[Callable[[Files], List[str]]] = [cited, named, refusals, calls, slot, block, reverse, lines]
+CHECKS: List[Callable[[Files], List[str]]] = [cited, named, refusals, calls, slot, block, reverse, messages, lines]
 
 # What each check has to tell: a file, the text that is there, and what is put in its place
 PLANTED = [
@@ -172,6 +196,11 @@ PLANTED = [
     (reverse, HEADER, "VICHRELKA_REVERSE_NAME 18", "VICHRELKA_REVERSE_NAME 17"),
     (reverse, HEADER, "VICHRELKA_REVERSE_NAMES 128", "VICHRELKA_REVERSE_NAMES 512"),
     (reverse, HEADER, "VICHRELKA_PTR_LIMIT 74", "VICHRELKA_PTR_LIMIT 75"),
+    (messages, RULES, "| 126 + Z + 4 N | 1,401 |", "| 127 + Z + 4 N | 1,402 |"),
+    (messages, RULES, "| 81 + Z + 3 N + 2 a | 1,133 |", "| 81 + Z + 3 N + a | 1,117 |"),
+    (messages, RULES, "| | prerequisite: it has no AAAA | 28 | 254 | 0 | none | 2.4.3 |\n", ""),
+    (messages, HEADER, "VICHRELKA_UPDATE_LIMIT 1401", "VICHRELKA_UPDATE_LIMIT 1400"),
+    (messages, HEADER, "VICHRELKA_CODE_SET_STANDS = 7", "VICHRELKA_CODE_SET_STANDS = 3"),
     (lines, RULES, "# The rules\n", "# The rules" + "!" * 119 + "\n"),
 ]
 

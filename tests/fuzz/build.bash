@@ -3,8 +3,8 @@
 # shellcheck shell=bash
 
 out=target/fuzz
-common=(tests/lend.c bench/table_plain.c bench/load_plain.c bench/book_plain.c bench/lease_plain.c bench/sha256_plain.c tests/fuzz/message_plain.c
-  tests/fuzz/listing_plain.c tests/fuzz/name_text_plain.c tests/fuzz/fuzz.c)
+common=(tests/lend.c bench/table_plain.c bench/load_plain.c bench/book_plain.c bench/lease_plain.c bench/update_plain.c bench/sha256_plain.c
+  tests/fuzz/message_plain.c tests/fuzz/listing_plain.c tests/fuzz/name_text_plain.c tests/fuzz/fuzz.c)
 
 stop() {
   echo "fuzz: $1" >&2

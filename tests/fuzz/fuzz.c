@@ -138,7 +138,7 @@ void differ(const char *call, const char *what, uint64_t library, uint64_t plain
 const char *const CALL_NAMES[CALLS] = {"name",  "dhcid", "check", "load",  "add",       "remove",
                                        "clear", "write", "find",  "count", "from text", "to text",
                                        "block", "replay", "tidy", "sound", "lease",     "end",
-                                       "ptr"};
+                                       "ptr",   "add first", "add second", "remove first", "remove second", "answer"};
 uint64_t answers[CALLS][NUMBERS];
 
 void count(enum call call, uint64_t answer)

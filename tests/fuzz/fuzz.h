@@ -7,7 +7,7 @@
 #include "plain.h"
 
 typedef void target_fn(const uint8_t *input, size_t len);
-target_fn try_message, try_listing, try_table, try_name_text, try_book, try_lease;
+target_fn try_message, try_listing, try_table, try_name_text, try_book, try_lease, try_update;
 
 /* The bytes of an input that are not taken yet. Behind its end there are zeros. */
 struct input {
@@ -59,7 +59,10 @@ _Noreturn void differ(const char *call, const char *what, uint64_t library, uint
 void agree(const char *call, uint64_t library, uint64_t plain, int same_written, int all_as_lent);
 
 /* The answers that were compared, for those who count: by call and number, 0 is accepted */
-enum call { NAME, DHCID, CHECK, LOAD, ADD, REMOVE, CLEAR, WRITE, FIND, COUNT, FROM_TEXT, TO_TEXT, BLOCK, REPLAY, TIDY, SOUND, LEASE, END, PTR, CALLS };
+enum call {
+    NAME, DHCID, CHECK, LOAD, ADD, REMOVE, CLEAR, WRITE, FIND, COUNT, FROM_TEXT, TO_TEXT, BLOCK, REPLAY, TIDY, SOUND, LEASE, END, PTR, ADD_FIRST,
+    ADD_SECOND, REMOVE_FIRST, REMOVE_SECOND, ANSWER, CALLS
+};
 enum { NUMBERS = 64 };
 extern const char *const CALL_NAMES[CALLS];
 extern uint64_t answers[CALLS][NUMBERS];

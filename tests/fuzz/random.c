@@ -456,15 +456,9 @@ static void put_asked_name(uint8_t which)
     }
 }
 
-/* An add, a remove or a clear: of the name and the client of a slot, of others, or of what the input says */
-static void put_call(uint32_t step)
+/* The client of a slot, another one, or what the input says */
+static void put_client(uint8_t which)
 {
-    uint8_t which = (uint8_t)chance(one_in(2) ? 8 : 64);
-    put((uint8_t)step);
-    put((uint8_t)(one_in(100) ? chance(256) : chance(2)));
-    put_asked_name(which);
-    if (step == CLEAR_CALL)
-        return;
     if (one_in(24)) {
         put_random(2 + chance(60));
         return;
@@ -497,6 +491,17 @@ static void put_call(uint32_t step)
     put(is_holder ? which : dhcid_choice());
     if (!is_held)
         put((uint8_t)chance(256));
+}
+
+/* An add, a remove or a clear: of the name and the client of a slot, of others, or of what the input says */
+static void put_call(uint32_t step)
+{
+    uint8_t which = (uint8_t)chance(one_in(2) ? 8 : 64);
+    put((uint8_t)step);
+    put((uint8_t)(one_in(100) ? chance(256) : chance(2)));
+    put_asked_name(which);
+    if (step != CLEAR_CALL)
+        put_client(which);
 }
 
 static void make_table(void)
@@ -847,6 +852,95 @@ static void make_lease(void)
     damage(one_in(16) ? 0 : len);
 }
 
+/* Messages for a name server: the calls are update.c's, in its order. */
+
+enum { SERVER_ANSWER = 4, SERVER_CALLS };
+
+/* A name whose bytes are those of a name also from inside its first label on, where a hyphen or a digit is taken for a length; where that is */
+static uint8_t put_two_in_one(void)
+{
+    uint8_t inner = (uint8_t)"-0123456789"[chance(11)], before = (uint8_t)(1 + chance(62u - inner));
+    put((uint8_t)(before + 1 + inner));
+    for (uint8_t i = 0; i < before; i++)
+        put((uint8_t)label_byte());
+    put(inner);
+    for (uint8_t i = 0; i < inner; i++)
+        put((uint8_t)label_byte());
+    put_name();
+    return (uint8_t)(1 + before);
+}
+
+/* A zone that is the end of the name, mostly from a label on, or from this byte on if it is not 0 */
+static void put_zone(uint8_t from)
+{
+    uint8_t change = (uint8_t)((one_in(3) ? 4 : 0) | (one_in(16) ? 8 : 0));
+    if (one_in(24)) {
+        put(0);
+        put(0);
+        put_asked_name((uint8_t)chance(64));
+        return;
+    }
+    put((uint8_t)(change | (from != 0 || one_in(16) ? 1 : 2)));
+    put((uint8_t)(from != 0 ? from : chance(one_in(4) ? 5 : 2)));
+    if (change & 8) {
+        put((uint8_t)chance(256));
+        put((uint8_t)(one_in(2) ? (uint32_t)label_byte() : chance(256)));
+    }
+}
+
+static void put_update_call(uint32_t call)
+{
+    uint8_t from = 0;
+    put((uint8_t)call);
+    put((uint8_t)(one_in(4) ? 1 + chance(16) : 0));
+    if (one_in(4)) {
+        put_asked_name((uint8_t)(38 + chance(26))); /* from there on they have two labels */
+    } else { /* what the input says, as much as a length can say */
+        put(2);
+        put(0);
+        size_t name = len;
+        if (one_in(6))
+            from = put_two_in_one();
+        else
+            put_name();
+        if (len - name > 255)
+            len = name + 255;
+        set_length(name, 1);
+    }
+    put_client((uint8_t)chance(64));
+    put_random(2);
+    put_zone(from);
+}
+
+/* A header with some code, mostly right, and some bytes behind it */
+static void put_answer(void)
+{
+    uint32_t number = chance(65536), other = one_in(8) ? number ^ 1u << chance(16) : number, count = one_in(6) ? chance(12) : 10 + chance(20);
+    put(SERVER_ANSWER);
+    put_two(number);
+    put_two(other);
+    put((uint8_t)count);
+    put_random(count);
+    if (count > 2) {
+        uint8_t *flags = input + len - count;
+        flags[0] = (uint8_t)((flags[0] & 7) | (one_in(8) ? chance(32) << 3 : 0xa8));
+        if (one_in(2))
+            flags[1] = (uint8_t)((flags[1] & 0xf0) | "\0\6\7\x8"[chance(4)]);
+    }
+}
+
+static void make_update(void)
+{
+    for (uint32_t calls = 1 + chance(6); calls > 0; calls--) {
+        uint32_t call = chance(SERVER_CALLS);
+        if (call == SERVER_ANSWER)
+            put_answer();
+        else
+            put_update_call(call);
+    }
+    damage(one_in(16) ? 0 : len);
+}
+
 /* Targets */
 
 static const struct {
@@ -854,7 +948,8 @@ static const struct {
     target_fn *try;
     void (*make)(void);
 } targets[] = {{"message", try_message, make_message}, {"listing", try_listing, make_listing}, {"table", try_table, make_table},
-             {"name_text", try_name_text, make_name_text}, {"book", try_book, make_book}, {"lease", try_lease, make_lease}};
+             {"name_text", try_name_text, make_name_text}, {"book", try_book, make_book}, {"lease", try_lease, make_lease},
+             {"update", try_update, make_update}};
 enum { TARGETS = sizeof targets / sizeof targets[0] };
 
 static void on_find(int number)
@@ -909,7 +1004,7 @@ int main(int argc, char **argv)
     while (argc == 5 && target < TARGETS && strcmp(argv[1], targets[target].name) != 0)
         target++;
     if (argc != 5 || target == TARGETS) {
-        fprintf(stderr, "random: TARGET SEED CALLS FIND, where TARGET is message, listing, table, name_text, book or lease\n");
+        fprintf(stderr, "random: TARGET SEED CALLS FIND, where TARGET is message, listing, table, name_text, book, lease or update\n");
         return 2;
     }
     uint64_t seed = strtoull(argv[2], NULL, 10), most = strtoull(argv[3], NULL, 10), inputs = 0;

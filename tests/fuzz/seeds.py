@@ -22,6 +22,7 @@ import table_edges  # noqa: E402
 PUT, SLOT, FILL, LENGTH, ADD, REMOVE, CLEAR, WRITE, LOAD, FIND, COUNT = range(11)  # as in table.c
 COME_MANY, GO_MANY, BYTES, REPLAY, TIDY, SOUND, BLOCK = 2, 3, 6, 7, 8, 9, 10  # as in book.c
 PUT_REVERSE, FILL_REVERSE, LENGTH_REVERSE, LEASE, END, PTR = 4, 6, 7, 8, 9, 10  # as in lease.c
+MESSAGES, ANSWER, FROM_BYTE, FROM_LABEL, OTHER_CASE = range(4), 4, 1, 2, 4  # as in update.c
 STEP = {"add": ADD, "remove": REMOVE, "clear": CLEAR}
 TABLE_AREA = bytes([15])  # as in listing.c
 MOST_TABLE, MOST_REVERSE = 20480, 35456  # as in table.c and in lease.c
@@ -135,8 +136,27 @@ def leases() -> Iterator[bytes]:
             yield put_table(call.table) + put_reverse(call.reverse) + step
 
 
+def updates() -> Iterator[bytes]:
+    client = b"\6client\7example\3com\0"
+    longest = b"".join(bytes([length]) + b"l" * length for length in (63, 63, 63, 61)) + b"\0"
+    two_in_one = b"\x32a0" + b"x" * 48 + b"\1z\0"  # its last bytes are a proper name too, which is not its last labels
+    dhcid, number = bytes((0, 0, 1)) + bytes(range(32)), bytes((0x12, 0x34))
+    for call in MESSAGES:
+        for room in (0, 1, 7):  # enough, just enough, a byte short
+            for name, way, at in ((client, FROM_LABEL, 1), (client, FROM_LABEL | OTHER_CASE, 0), (longest, FROM_LABEL, 3), (longest, FROM_LABEL, 0),
+                                  (two_in_one, FROM_BYTE, 2), (two_in_one, FROM_LABEL, 1), (client, FROM_BYTE, 18)):
+                for family, size in ((4, 4), (6, 16), (4, 16), (5, 4)):
+                    yield bytes([call, room]) + given_name(name) + given_client(dhcid, family, bytes(range(size))) + number + bytes([way, at])
+    for code in range(16):
+        for flags in (0xa8, 0x28, 0x80, 0xff):
+            yield bytes([ANSWER]) + number + number + bytes([10, flags, code]) + bytes(8)
+    yield bytes([ANSWER]) + number + number + bytes([9, 0xa8, 0]) + bytes(7)
+    yield bytes([ANSWER]) + number + bytes(2) + bytes([10, 0xa8, 0]) + bytes(8)
+
+
 if __name__ == "__main__":
     target, folder = sys.argv[1], pathlib.Path(sys.argv[2])
-    for number, seed in enumerate({"message": messages, "listing": listings, "table": tables, "name_text": names, "book": books, "lease": leases}[target]()):
+    makers = {"message": messages, "listing": listings, "table": tables, "name_text": names, "book": books, "lease": leases, "update": updates}
+    for number, seed in enumerate(makers[target]()):
         if len(seed) <= MOST:
             (folder / ("seed-%04d" % number)).write_bytes(seed)

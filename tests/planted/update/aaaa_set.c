@@ -1,0 +1,9 @@
+/* A second add deletes As, in family 6 too. */
+#include "update.h"
+
+static void change(const struct call *c, struct message *m)
+{
+    behind_owner(c, m, 1)[TYPE] = TYPE_A;
+}
+
+PLANT_CHANGED(change, PLANT_ADD_SECOND)

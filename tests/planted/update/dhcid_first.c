@@ -1,0 +1,9 @@
+/* A first add has the DHCID before the address. */
+#include "update.h"
+
+static void change(const struct call *c, struct message *m)
+{
+    exchange_last(c, m);
+}
+
+PLANT_CHANGED(change, PLANT_ADD_FIRST)
