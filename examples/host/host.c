@@ -22,6 +22,9 @@ enum status { ACCEPTED, REFUSED, TROUBLE };
 
 static const char NOT_WRITTEN[] = "not written: look whether the folder is there, may be written and has room";
 static const char NO_BOOK[] = "no book is kept: say `book FILE` to go on from one, or `new FILE` to begin one";
+static const char NO_MESSAGE[] = "no message: look whether the file is there, and has hexadecimal digits in pairs and nothing else";
+static const char NO_TAKEOVER[] = "NOT DONE: a takeover has no message for a name server; with a zone it has to be `set first-wins`";
+static const char NOTHING_WAITS[] = "no message waits for an answer: after `zone NAME FILE` each `request` and `release` that the table accepts writes one";
 
 enum {
     HAS_A = 1,                               /* of a slot's flags, and the two others */
@@ -30,7 +33,8 @@ enum {
     LINE_LIMIT = 512,                        /* a command with its end */
     PATH_ROOM = LINE_LIMIT + 16,             /* a file's name with an ending behind it */
     BOOK_LIMIT = 4 * VICHRELKA_TIDIED_LIMIT, /* the memory for a book, which is lent whole */
-    TIDY_BELOW = VICHRELKA_TIDIED_LIMIT      /* with less room than that the book should be tidied */
+    TIDY_BELOW = VICHRELKA_TIDIED_LIMIT,     /* with less room than that the book should be tidied */
+    UDP_LIMIT = 512                          /* a message for a name server that has more bytes goes by TCP */
 };
 
 /* Beside the book's FILE: the reverse side; an ended lease that is not done yet. */
@@ -40,6 +44,9 @@ static const char REVERSE[] = ".reverse", ENDED[] = ".ended";
 struct lease {
     uint8_t family, address_len, address[16], name_len, name[VICHRELKA_NAME_LIMIT], dhcid[VICHRELKA_DHCID_LEN];
 };
+
+/* The messages for a name server: two for a lease, which is an add there, and two for an ended one, a remove. */
+enum message { NOTHING, ADD_FIRST, ADD_SECOND, REMOVE_FIRST, REMOVE_SECOND };
 
 /* Where the power fails in a lease or an ended one, to try what is left: README.md tells the places. */
 enum place { NOWHERE, BEFORE, BETWEEN, AFTER, IN_BLOCK, IN_REVERSE };
@@ -56,6 +63,13 @@ struct gateway {
     uint8_t site[VICHRELKA_NAME_LIMIT];     /* the name for a client without a proper one, in wire form */
     size_t site_len;                        /* 0 as long as none is set: the library then answers 9 where it would be needed */
     uint32_t setting, policy;
+    uint8_t zone[VICHRELKA_NAME_LIMIT];     /* the name server's zone, in wire form */
+    size_t zone_len;                        /* 0 as long as none is set: no messages are written then */
+    char outbox[LINE_LIMIT];                /* the messages' files, each with its number behind this */
+    enum message waiting;                   /* the message that waits for its answer */
+    uint16_t number;                        /* its number, or that of the last one */
+    struct lease carried;                   /* the lease that it is about */
+    int is_repeated;                        /* it was written more than once, so an answer may have been lost */
     int is_off;                             /* the power was cut, and there was no restart yet */
     enum place cut, next_cut;               /* where the power fails in this step, and in the next lease or ended one */
     size_t cut_bytes;                       /* in a block or in the reverse side: after so many of its bytes */
@@ -475,6 +489,105 @@ static uint64_t read_client(const struct gateway *g, const uint8_t *message, siz
     return vichrelka_refusal(answer) != 0 ? answer : 0;
 }
 
+static void print_waiting(const struct gateway *g)
+{
+    static const char *const MESSAGES[] = {
+        [ADD_FIRST] = "first of an add", [ADD_SECOND] = "second of an add", [REMOVE_FIRST] = "first of a remove", [REMOVE_SECOND] = "second of a remove"};
+
+    printf("message %u, the %s, ", (unsigned)g->number, MESSAGES[g->waiting]);
+}
+
+/* The bytes of the message that waits. */
+static uint64_t make_message(const struct gateway *g, uint8_t *out)
+{
+    static uint64_t (*const WITH_ADDRESS[])(uint16_t, const uint8_t *, size_t, const uint8_t *, size_t, const uint8_t *, size_t, uint32_t, const uint8_t *,
+                                            size_t, uint8_t *, size_t) = {
+        [ADD_FIRST] = vichrelka_update_add_first, [ADD_SECOND] = vichrelka_update_add_second, [REMOVE_FIRST] = vichrelka_update_remove_first};
+    const struct lease *lease = &g->carried;
+
+    if (g->waiting == REMOVE_SECOND)
+        return vichrelka_update_remove_second(g->number, g->zone, g->zone_len, lease->name, lease->name_len, lease->dhcid, sizeof lease->dhcid, out,
+                                              VICHRELKA_UPDATE_LIMIT);
+    return WITH_ADDRESS[g->waiting](g->number, g->zone, g->zone_len, lease->name, lease->name_len, lease->dhcid, sizeof lease->dhcid, lease->family,
+                                    lease->address, lease->address_len, out, VICHRELKA_UPDATE_LIMIT);
+}
+
+/* Writes the message that waits, as a line of hexadecimal in a file of its own: where a gateway sends it, this one leaves it for a sender. */
+static enum status write_message(struct gateway *g)
+{
+    uint8_t message[VICHRELKA_UPDATE_LIMIT];
+    char text[2 * VICHRELKA_UPDATE_LIMIT + 2], ending[8], path[PATH_ROOM];
+    uint64_t answer = make_message(g, message);
+    size_t len = vichrelka_value(answer), i;
+
+    if (vichrelka_refusal(answer) != 0) {
+        g->waiting = NOTHING;
+        printf("no message for the name server: ");
+        return refused(answer, NULL);
+    }
+    for (i = 0; i < len; i++)
+        snprintf(text + 2 * i, 3, "%02x", message[i]);
+    text[2 * len] = '\n';
+    snprintf(ending, sizeof ending, ".%u", (unsigned)g->number);
+    print_waiting(g);
+    if (!save(with_ending(path, g->outbox, ending), "", (const uint8_t *)text, 2 * len + 1)) {
+        printf("%s, and say `again`\n", NOT_WRITTEN);
+        return TROUBLE;
+    }
+    printf("%u bytes, by %s\n", (unsigned)len, len > UDP_LIMIT ? "TCP" : "UDP");
+    return ACCEPTED;
+}
+
+/*
+ * The next message of the lease that is carried. Each has a new number, so that an answer is that of this message. Here they are counted, so that
+ * this program says the same in each run. A gateway takes random ones, which nobody can guess.
+ */
+static enum status write_next(struct gateway *g, enum message next)
+{
+    g->waiting = next;
+    g->number++;
+    g->is_repeated = 0;
+    return write_message(g);
+}
+
+/*
+ * Carries a step to the name server, by its first message. The table was asked first: what it refused, the server is not asked for. Nor is it for a
+ * lease that is NOT STORED: its client is told nothing and asks again. Nobody asks again for an ended one, which is kept by then.
+ */
+static enum status carry(struct gateway *g, enum status status, const struct lease *lease, enum message first)
+{
+    enum status written;
+
+    if (g->zone_len == 0)
+        return status;
+    if (status == REFUSED || (status == TROUBLE && first == ADD_FIRST))
+        return say(status, "no message for the name server");
+    g->carried = *lease;
+    written = write_next(g, first);
+    return status > written ? status : written;
+}
+
+/* Whether a name is one of the zone: a message without room is refused with 13, or before that with 9 if it is not. */
+static int is_in_zone(const struct gateway *g, const struct lease *lease)
+{
+    uint64_t answer = vichrelka_update_remove_second(0, g->zone, g->zone_len, lease->name, lease->name_len, lease->dhcid, sizeof lease->dhcid, NULL, 0);
+
+    return vichrelka_refusal(answer) != VICHRELKA_REFUSED_NO_PROPER_NAME;
+}
+
+/* Whether a step can be carried to the name server, if there is one. This is asked before the table is, which would else be ahead of the server. */
+static int can_carry(const struct gateway *g, const struct lease *lease)
+{
+    if (g->waiting != NOTHING)
+        printf("NOT DONE: message %u waits for its answer; say `answered FILE`, `again` to write it once more, or `zone NAME FILE` to give it up\n",
+               (unsigned)g->number);
+    else if (g->zone_len > 0 && !is_in_zone(g, lease))
+        printf("NOT DONE: the name is not in the zone of the name server, which would not take it; give the client one that is\n");
+    else
+        return 1;
+    return 0;
+}
+
 /* A request or a release of a client: which name, whose, then the lease or its end. */
 static enum status do_lease(struct gateway *g, char **words)
 {
@@ -485,21 +598,118 @@ static enum status do_lease(struct gateway *g, char **words)
 
     lease.address_len = (uint8_t)read_address(words[3], lease.address);
     if (!read_message(words[2], message, sizeof message, &len))
-        return say(TROUBLE, "no message: look whether the file is there, and has hexadecimal digits in pairs and nothing else");
+        return say(TROUBLE, NO_MESSAGE);
     if (lease.address_len == 0)
         return say(TROUBLE, "no address: write four numbers with dots, or eight groups of hexadecimal digits with colons");
     answer = read_client(g, message, len, &lease);
     if (vichrelka_refusal(answer) != 0)
         return refused(answer, NULL);
+    if (!can_carry(g, &lease))
+        return REFUSED;
     if (!has_room(g, 1))
         return no_room();
     if (!has_caught_up(g))
         return not_caught_up();
     if (strcmp(words[0], "request") == 0)
-        return give_lease(g, &lease);
+        return carry(g, give_lease(g, &lease), &lease, ADD_FIRST);
     if (!keep_ended(g, &lease))
         return say(TROUBLE, "NOT DONE: the ended lease cannot be kept beside the book; look whether the folder may be written and has room, then this again");
-    return end_lease(g, &lease, 0);
+    return carry(g, end_lease(g, &lease, 0), &lease, REMOVE_FIRST);
+}
+
+/* What a server's code says of a message, and which one follows. */
+static const struct meaning {
+    enum message message;
+    uint32_t code;
+    enum message next;
+    enum status status;
+    const char *words;
+} MEANINGS[] = {
+    {ADD_FIRST, VICHRELKA_CODE_DONE, NOTHING, ACCEPTED, "done, the name was not in use there and is now this client's"},
+    {ADD_FIRST, VICHRELKA_CODE_NAME_IN_USE, ADD_SECOND, ACCEPTED, "the name is in use there, so the second message follows"},
+    {ADD_SECOND, VICHRELKA_CODE_DONE, NOTHING, ACCEPTED, "done, the client holds the name there, and has this address now"},
+    {ADD_SECOND, VICHRELKA_CODE_NO_SUCH_SET, NOTHING, REFUSED,
+     "another client holds the name there, or it is kept by hand; end this lease by `release`, or free the name there and say `request` again"},
+    {REMOVE_FIRST, VICHRELKA_CODE_DONE, REMOVE_SECOND, ACCEPTED, "the address is gone there, so the second message follows"},
+    {REMOVE_FIRST, VICHRELKA_CODE_NO_SUCH_SET, NOTHING, REFUSED,
+     "there is nothing of this client to delete there; if that is news, compare the zone with `show`"},
+    {REMOVE_SECOND, VICHRELKA_CODE_DONE, NOTHING, ACCEPTED, "done, the name is gone there"},
+    {REMOVE_SECOND, VICHRELKA_CODE_SET_STANDS, NOTHING, ACCEPTED, "done, an address of the other family stands there, and the name stays this client's"},
+    {REMOVE_SECOND, VICHRELKA_CODE_NO_SUCH_SET, NOTHING, ACCEPTED, "done, nothing of this client is left there"}};
+
+/* The meaning of a code for the message that waits; NULL if no server that keeps to RFC 2136 gives it. */
+static const struct meaning *find_meaning(const struct gateway *g, uint32_t code)
+{
+    static const struct meaning LOST = {REMOVE_FIRST, VICHRELKA_CODE_NO_SUCH_SET, REMOVE_SECOND, ACCEPTED,
+                                        "there is nothing of this client to delete there, but an answer may have been lost, so the second message follows"};
+    size_t i;
+
+    if (g->is_repeated && g->waiting == LOST.message && code == LOST.code)
+        return &LOST;
+    for (i = 0; i < sizeof MEANINGS / sizeof *MEANINGS; i++)
+        if (MEANINGS[i].message == g->waiting && MEANINGS[i].code == code)
+            return &MEANINGS[i];
+    return NULL;
+}
+
+/* The code of a server's answer: what it means, and the second message where one follows. After a code that means nothing here the message waits on. */
+static enum status take_code(struct gateway *g, uint32_t code)
+{
+    const struct meaning *meaning = find_meaning(g, code);
+
+    printf("code %u: ", (unsigned)code);
+    if (meaning == NULL)
+        return say(REFUSED, "no server that keeps to RFC 2136 gives this code here; the message waits on; a person has to look at the server and say `again`");
+    printf("%s\n", meaning->words);
+    g->waiting = NOTHING;
+    return meaning->next == NOTHING ? meaning->status : write_next(g, meaning->next);
+}
+
+/* A server's answer to the message that waits. The library looks at its first bytes only, so no more of them are kept. */
+static enum status do_answered(struct gateway *g, char **words)
+{
+    uint8_t bytes[VICHRELKA_UPDATE_ANSWER_MIN];
+    size_t len;
+    uint64_t answer;
+
+    if (g->waiting == NOTHING)
+        return say(TROUBLE, NOTHING_WAITS);
+    if (!read_message(words[1], bytes, sizeof bytes, &len))
+        return say(TROUBLE, NO_MESSAGE);
+    answer = vichrelka_update_answer(g->number, bytes, len);
+    print_waiting(g);
+    if (vichrelka_refusal(answer) == 0)
+        return take_code(g, vichrelka_value(answer));
+    if (vichrelka_refusal(answer) == VICHRELKA_REFUSED_ANOTHER_CODE)
+        printf("code %u: not carried out, and waits on; a person has to read the code (RFC 2136, 2.2), mend what it says and say `again`: ", bytes[3] & 0xfu);
+    else
+        printf("waits on: ");
+    return refused(answer, NULL);
+}
+
+/* The same message once more, under its own number: no answer came, or a person has mended what the server complained of. */
+static enum status do_again(struct gateway *g, char **words)
+{
+    (void)words;
+    if (g->waiting == NOTHING)
+        return say(TROUBLE, NOTHING_WAITS);
+    g->is_repeated = 1;
+    return write_message(g);
+}
+
+/* The zone that messages are for, and where they go. One that waits is given up. */
+static enum status do_zone(struct gateway *g, char **words)
+{
+    size_t len;
+
+    if (g->policy != VICHRELKA_FIRST_WINS)
+        return say(REFUSED, NO_TAKEOVER);
+    if ((len = read_name(words[1], g->zone)) == 0)
+        return REFUSED;
+    g->zone_len = len;
+    snprintf(g->outbox, sizeof g->outbox, "%s", words[2]);
+    g->waiting = NOTHING;
+    return say(ACCEPTED, "done");
 }
 
 static enum status do_clear(struct gateway *g, char **words)
@@ -596,6 +806,8 @@ static enum status do_set(struct gateway *g, char **words)
         g->site_len = len;
     } else if (strcmp(words[1], "client-names") == 0 || strcmp(words[1], "site-name") == 0) {
         g->setting = words[1][0] == 'c' ? VICHRELKA_CLIENT_FIRST : VICHRELKA_SITE_ONLY;
+    } else if (g->zone_len > 0 && strcmp(words[1], "latest-wins") == 0) {
+        return say(REFUSED, NO_TAKEOVER);
     } else if (strcmp(words[1], "first-wins") == 0 || strcmp(words[1], "latest-wins") == 0) {
         g->policy = words[1][0] == 'f' ? VICHRELKA_FIRST_WINS : VICHRELKA_LATEST_WINS;
     } else {
@@ -821,14 +1033,18 @@ static const char *read_sides(const char *path, uint8_t *reverse, enum content *
     return NULL;
 }
 
-/* An ended lease that was kept from before the restart: it may be undone, done in part, or done. */
+/* An ended lease that was kept from before the restart: it may be undone, done in part, or done, and so may its first message. */
 static enum status end_again(struct gateway *g, const struct lease *lease)
 {
+    enum status status;
+
     g->has_ended = 1;
     printf("an ended lease was kept, ");
     print_name(lease->name, lease->name_len);
     printf(": ");
-    return end_lease(g, lease, 1);
+    status = carry(g, end_lease(g, lease, 1), lease, REMOVE_FIRST);
+    g->is_repeated = 1;
+    return status;
 }
 
 /*
@@ -891,6 +1107,7 @@ static enum status do_book(struct gateway *g, char **words)
     keep(g, words[1], book, sound);
     memcpy(g->reverse, reverse, sizeof g->reverse);
     g->is_reverse_changed = g->has_ended = g->is_off = 0;
+    g->waiting = NOTHING;
     printf("blocks: %u, names: %u", blocks(sound), (unsigned)vichrelka_value(vichrelka_table_count(g->table, sizeof g->table)));
     if (rest > 0)
         printf("; CUT OFF: %lu bytes, of a write that was cut or of a block that was damaged later: a client may have been told of that step",
@@ -1017,7 +1234,7 @@ static const struct command {
                 {"load", 2, do_load},        {"new", 1, do_new},       {"new", 2, do_new},     {"load-anyway", 2, do_load},
                 {"site", 2, do_set},         {"set", 2, do_set},       {"book", 2, do_book},   {"show-reverse", 1, do_show_reverse},
                 {"restart", 1, do_restart},  {"cut", 2, do_cut},       {"cut", 3, do_cut},     {"renew-reverse", 1, do_renew_reverse},
-                {"tidy", 2, do_tidy}};
+                {"tidy", 2, do_tidy},        {"zone", 3, do_zone},     {"again", 1, do_again}, {"answered", 2, do_answered}};
 
 /* Without power there is nothing but a restart, and what is to be tried there. */
 static int is_without_power(const struct command *command)
