@@ -15,7 +15,7 @@
 # installs what the package has, and does nothing else.
 
 # the header has it too, and says when which number goes up
-VERSION = 0.6.0
+VERSION = 0.7.0
 # the SPDX name of what LICENSE says; it goes into vichrelka.pc and into the installed header
 LICENSE_ID = LicenseRef-none-chosen
 
