@@ -754,6 +754,7 @@ uint64_t vichrelka_lease_end(uint8_t *table, size_t table_len, uint8_t *reverse,
  *
  *   - Keep VICHRELKA_FIRST_WINS. A takeover, a clear, a load and a replay have no message.
  *   - Send nothing for an add that the table refused with 32 (full): the server would take the name.
+ *   - Wait for a message's answer before you send the next one, so that they are carried out in the table's order.
  *   - Lifetimes are 3,600 seconds. There is no message for a PTR.
  *   - Take a new number for each message, one that cannot be guessed, so that an answer is that of this message.
  *   - A message of more than 512 bytes goes by TCP (RFC 1035, 4.2), with its length in two bytes before it.
