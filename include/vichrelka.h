@@ -747,10 +747,11 @@ uint64_t vichrelka_lease_end(uint8_t *table, size_t table_len, uint8_t *reverse,
  *     refused 48   The server did not carry the message out: let a person read the code. A server may refuse names
  *                  that are proper here, such as one with an underscore, or with a hyphen at a label's end.
  *
- * While every message and every answer arrives, all names are in one zone, and the server keeps to RFC 2136, its zone
- * holds what the table holds, name by name, whatever calls were refused in between (but one: see below). So give a
- * table one zone, and one server. The server's code decides where its zone has what no table has, such as a TXT or a
- * CNAME beside a client's records, or the zone's own records: the table does not see them.
+ * A zone that holds what the table holds, name by name, goes on doing so while every message and every answer arrives,
+ * all names are in that zone, and the server keeps to RFC 2136, whatever calls are refused in between (but one: see
+ * below). So give a table one zone and one server, and begin with both empty or with the same names. The server's
+ * code decides where its zone has what no table has, such as a TXT or a CNAME beside a client's records, or the
+ * zone's own records: the table does not see them.
  *
  *   - Keep VICHRELKA_FIRST_WINS. A takeover, a clear, a load and a replay have no message.
  *   - Send nothing for an add that the table refused with 32 (full): the server would take the name.
