@@ -77,7 +77,7 @@ class Follower:
     """`transport` says how messages go; `twist` changes one of a kind before it is sent."""
 
     def __init__(self, library: Library, server: Server, zone: Zone, transport: str = BY_RULE) -> None:
-        self.library, self.server, self.zone, self.transport = library, server, zone, transport
+        self.calls, self.server, self.zone, self.transport = library, server, zone, transport
         self.twist: Callable[[str, bytes], bytes] = lambda kind, data: data
         self.zone_name = wire.wire_name(zone.name)
         self.beside: List[Record] = []  # what the zone has and no table
@@ -101,8 +101,8 @@ class Follower:
     def begin(self, listing: bytes = b"") -> None:
         """The table is this listing, and the zone has its records and no others."""
         owners = {one.owner for one in self.server.link.zone(self.zone_name)} - {self.zone_name}
-        self.library.load(listing)
-        self.table, self.beside = self.library.records(), []
+        self.calls.load(listing)
+        self.table, self.beside = self.calls.records(), []
         updates = [Record(owner, wire.ANY_TYPE, wire.ANY, 0, b"") for owner in sorted(owners)] + self.table
         if updates:
             self.by_hand(updates)
@@ -118,14 +118,14 @@ class Follower:
             answer = self.server.link.receive(by_tcp, patience)
             if answer is None:
                 break
-            read = self.library.read(number, answer)
+            read = self.calls.read(number, answer)
             if read.refusal != NOT_THE_ANSWER:
                 return Outcome(read.value if read.refusal == 0 else None, read.refusal, wire.code(answer))
         return Outcome(None, 0, None)
 
     def send(self, kind: str, client: Client, zone: Optional[bytes] = None) -> Outcome:
         zone, number = zone or self.zone_name, self.server.link.next_number()
-        data = self.library.message(kind, number, zone, client)
+        data = self.calls.message(kind, number, zone, client)
         self.sent[Sent(kind, zone, client._replace(name=client.name.lower()))] = data
         self.longest = max(self.longest, len(data))
         return self.exchange(number, self.twist(kind, data))
@@ -144,8 +144,8 @@ class Follower:
         return differences(self.zone.records() + self.table + self.beside, self.server.link.zone(self.zone_name))
 
     def on_table(self, word: str, client: Client) -> Answer:
-        answer = self.library.step(word, client)
-        self.table = self.library.records()
+        answer = self.calls.step(word, client)
+        self.table = self.calls.records()
         return answer
 
     def is_held(self, name: bytes) -> bool:

@@ -160,11 +160,11 @@ def cut(follower: Follower, seen: Counter[str]) -> Faults:
     """A message at each length from its header on by TCP, at some by UDP. A server may also keep silent, but not always."""
     follower.begin()
     client = first_client(in_zone(follower, "client"))
-    whole = len(follower.library.message("add_first", 0, follower.zone_name, client))
+    whole = len(follower.calls.message("add_first", 0, follower.zone_name, client))
     outcomes: List[Outcome] = []
     for transport, length in [(BY_TCP, length) for length in range(12, whole)] + [(BY_UDP, length) for length in (12, whole // 2, whole - 1)]:
         follower.transport, number = transport, follower.server.link.next_number()
-        data = follower.library.message("add_first", number, follower.zone_name, client)
+        data = follower.calls.message("add_first", number, follower.zone_name, client)
         outcomes.append(follower.exchange(number, data[:length], 0.5))
         seen["%s %s" % (outcomes[-1].shown(), transport)] += 1
     faults = ["a cut message gives %s" % one.shown() for one in outcomes if one.code is not None and one.refusal != ANOTHER_CODE]
@@ -178,14 +178,14 @@ def other_answers(follower: Follower) -> Faults:
     follower.begin()
     link = follower.server.link
     number = link.next_number()
-    ours = follower.library.message("remove_first", number, follower.zone_name, first_client(in_zone(follower, "client")))
+    ours = follower.calls.message("remove_first", number, follower.zone_name, first_client(in_zone(follower, "client")))
     answer = link.ask(ours, True)
     to_query = link.ask(wire.build(wire.query(number, follower.zone_name, wire.SOA)), True)
     cases = {"the answer": (number, answer, 0), "its first 12 bytes": (number, answer[:12], 0), "its first 11": (number, answer[:11], NOT_THE_ANSWER),
              "that of another message": (number ^ 1, answer, NOT_THE_ANSWER), "that to a query": (number, to_query, NOT_THE_ANSWER),
              "our own message": (number, ours, NOT_THE_ANSWER), "no bytes": (number, b"", NOT_THE_ANSWER)}
-    return ["%s is read as refusal %d" % (what, follower.library.read(asked, data).refusal)
-            for what, (asked, data, due) in cases.items() if follower.library.read(asked, data).refusal != due]
+    return ["%s is read as refusal %d" % (what, follower.calls.read(asked, data).refusal)
+            for what, (asked, data, due) in cases.items() if follower.calls.read(asked, data).refusal != due]
 
 
 def lost_answers(follower: Follower) -> Faults:

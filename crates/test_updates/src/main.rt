@@ -8,9 +8,10 @@
 // last: its length, and what it is. The others are headings.
 //
 // Each line of the output is the label and the value or the refusal, or the field and its bytes. The fields stand from the message's first byte on, and the last is the
-// byte behind it. No byte behind a message may have changed, and after a refusal none at all. What must be printed, in the file `stdout`, was written by hand before
-// this program first ran: the messages from RFC 2136 (2.2 to 2.5), RFC 1035 (3.1, 3.2, 4.1.3), RFC 3596 (2.1, 2.2) and RFC 4701 (3, 3.6.3), the rest from document 02
-// (K8) and include/vichrelka.h ("Messages for a name server").
+// byte behind it. No byte behind a message may have changed, and after a refusal none at all. What must be printed, in the file `stdout`, was written before this
+// program first ran: the messages from RFC 2136 (2.2 to 2.5), RFC 1035 (3.1, 3.2, 4.1.3), RFC 3596 (2.1, 2.2) and RFC 4701 (3, 3.6.3), the rest from document 02 (K8)
+// and include/vichrelka.h ("Messages for a name server"). The first four messages are by hand; those of an AAAA and in upper case were made of them by replacing text.
+// Since the first run a heading has changed, and the form in which a value or a refusal is told.
 use base::Answer;
 use harness::Line;
 use harness::find;
