@@ -1,7 +1,6 @@
 #!/usr/bin/env bash
 # The DHCID of a request, from the whole message: how many a second, and the ratio to a plain C SHA-256 (gcc -O2) of the same hashed bytes, which a
-# DHCID cannot do without. Best of 60 rounds of CPU time. Each pass has to give the right DHCID, or there is no figure: that which RFC 4701 prints, and for
-# the long identifier that of Python's hashlib.
+# DHCID cannot do without. Best of 60 rounds of CPU time. Each pass has to give the DHCID that RFC 4701 prints, or there is no figure.
 set -euo pipefail
 cd "$(dirname "$0")/.."
 . bench/build.bash

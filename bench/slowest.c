@@ -1,8 +1,8 @@
 /* The slowest input that was found for each call of vichrelka.h: see bench/slowest.sh.
  *
- * The inputs were made from what the code does with each byte: as many options, parts of options, labels, words or entries as fit, names and addresses that
- * are alike up to their ends, and names that the first test of a load does not tell apart. Books have 10,000 blocks: the time grows with that number, and
- * with its square if there are more names than a table has room for. Each is timed, and the slowest of each call is printed. Every answer is checked. */
+ * The inputs were made from what the code does with each byte: as many options, labels, words or entries as fit, names and addresses that are alike up to
+ * their ends, and names that the first test of a load does not tell apart. Books have 10,000 blocks: the time grows with that number, and with its square if
+ * there are more names than a table has room for. Each is timed, and the slowest of each call is printed. Every answer is checked. */
 #include <stdbool.h>
 #include <stdio.h>
 #include <string.h>
@@ -117,7 +117,7 @@ static uint64_t accepted(uint32_t value)
 }
 
 static uint8_t table[VICHRELKA_TABLE_LEN], area[VICHRELKA_TABLE_LEN], out[VICHRELKA_WRITTEN_LIMIT];
-static uint8_t reverse[VICHRELKA_REVERSE_LEN], reverse_area[VICHRELKA_REVERSE_LEN], work[VICHRELKA_WORK_LEN];
+static uint8_t reverse[VICHRELKA_REVERSE_LEN], reverse_area[VICHRELKA_REVERSE_LEN];
 
 enum { BLOCKS = 10000 };
 static struct {
@@ -129,13 +129,12 @@ static const uint8_t DHCID[VICHRELKA_DHCID_LEN] = {0, 1, 1, 7}, ADDRESS[16] = {0
 
 static uint64_t name_call(const struct input *in)
 {
-    return vichrelka_name(in->number, VICHRELKA_CLIENT_FIRST, in->bytes.at, in->bytes.len, in->second.at, in->second.len, work, sizeof work);
+    return vichrelka_name(in->number, VICHRELKA_CLIENT_FIRST, in->bytes.at, in->bytes.len, in->second.at, in->second.len);
 }
 
 static uint64_t dhcid_call(const struct input *in)
 {
-    return vichrelka_dhcid(in->number, VICHRELKA_CLIENT_FIRST, in->bytes.at, in->bytes.len, in->second.at, in->second.len, work, sizeof work, out,
-                           sizeof out);
+    return vichrelka_dhcid(in->number, VICHRELKA_CLIENT_FIRST, in->bytes.at, in->bytes.len, in->second.at, in->second.len, out, sizeof out);
 }
 
 static uint64_t from_text_call(const struct input *in)
@@ -304,7 +303,7 @@ static void begin4(struct input *in, const char *what)
     put(&in->bytes, COOKIE, sizeof COOKIE);
 }
 
-/* an identifier of 255 bytes, and a name of as many as an option 81 has room for, 252, each in one part */
+/* an identifier of 255 bytes, and a name of as many as an option 81 has room for, 252 */
 static void put_longest4(struct input *in)
 {
     uint8_t name[VICHRELKA_NAME_LIMIT] = {0};
@@ -320,41 +319,6 @@ static void put_longest4(struct input *in)
         name[i + 1] = 'A';
     }
     put(&in->bytes, name, 251);
-}
-
-/* an identifier of two bytes, and the site's name, of 127 labels, since the client has none */
-static void put_shortest4(struct input *in)
-{
-    put(&in->bytes, "\75\2\7\7", 4);
-    in->second.len = wire(one_byte_labels(0), in->second.at);
-}
-
-/* a part of an option, with as many of the bytes as there is room for before End: how many they are */
-static size_t put_part4(struct input *in, unsigned code, const uint8_t *bytes, size_t len)
-{
-    size_t room = VICHRELKA_MESSAGE_LIMIT - 1 - in->bytes.len;
-    if (room < 3)
-        return 0;
-    if (len > room - 2)
-        len = room - 2;
-    put_byte(&in->bytes, code);
-    put_byte(&in->bytes, (unsigned)len);
-    put(&in->bytes, bytes, len);
-    return len;
-}
-
-/* a name of 255 bytes that ends with this letter, or none if it is 0, and an identifier of all bytes that are left, in parts of so many bytes, in turn */
-static void put_parts4(struct input *in, size_t part, char last)
-{
-    uint8_t name[3 + VICHRELKA_NAME_LIMIT] = {4}, identifier[255];
-    size_t at = 0, end = last == 0 ? 0 : sizeof name;
-    memset(identifier, 7, sizeof identifier);
-    for (size_t i = 3; i < sizeof name - 1; i += 2)
-        memcpy(name + i, "\1A", 2);
-    name[sizeof name - 2] = (uint8_t)last;
-    while (put_part4(in, 61, identifier, part) > 0)
-        if (at < end)
-            at += put_part4(in, 81, name + at, end - at < part ? end - at : part);
 }
 
 /* the options given, as often as they fit, and End */
@@ -456,67 +420,20 @@ static void try_accepted(call_fn *call, struct input *in)
 
 static struct input in;
 
-/* as many options of a kind as fit beside a client's name, or with the site's */
-static void fillings(call_fn *call)
-{
-#define FILLED(what, option) \
-    {"DHCPv4, 2,048 bytes, " what " and a name of 251 bytes", "DHCPv4, 2,048 bytes, " what " and the site's name of 255 bytes", option, sizeof option - 1}
-    static const struct {
-        const char *client, *site, *option;
-        size_t len;
-    } KINDS[] = {
-        FILLED("nothing but padding", "\0"),
-        FILLED("as many options of no bytes as fit,", "\200\0"),
-        FILLED("as many options of one byte as fit,", "\200\1\1"),
-        FILLED("as many empty parts of option 53 as fit,", "\65\0"),
-        FILLED("as many empty parts of option 61 as fit,", "\75\0"),
-        FILLED("as many empty parts of option 81 as fit,", "\121\0"),
-        FILLED("as many empty parts of 53, 61 and 81 in turn as fit,", "\65\0\75\0\121\0"),
-        FILLED("as many empty parts of 61, each after a byte of padding, as fit,", "\0\75\0"),
-    };
-    for (size_t k = 0; k < sizeof KINDS / sizeof KINDS[0]; k++) {
-        begin4(&in, KINDS[k].client);
-        put_longest4(&in);
-        end4(&in, KINDS[k].option, KINDS[k].len);
-        try_accepted(call, &in);
-        begin4(&in, KINDS[k].site);
-        put_shortest4(&in);
-        end4(&in, KINDS[k].option, KINDS[k].len);
-        try_accepted(call, &in);
-    }
-}
-
-static void try_parts(call_fn *call, const char *what, size_t part, char last)
-{
-    begin4(&in, what);
-    put_parts4(&in, part, last);
-    end4(&in, "\0", 1);
-    in.second.len = wire(one_byte_labels(0), in.second.at);
-    try_accepted(call, &in);
-}
-
-/* options in parts: with a client's name; with one whose last letter is none, so that the site's is tested too; with the site's alone */
-static void parts(call_fn *call)
-{
-#define IN_PARTS(part) \
-    {"DHCPv4, 2,048 bytes, a name of 255 bytes and a long identifier, in parts of " #part, \
-     "DHCPv4, 2,048 bytes, a name of 255 bytes that ends badly, so the site's of 255 bytes, and a long identifier, in parts of " #part, \
-     "DHCPv4, 2,048 bytes, the site's name of 255 bytes, and an identifier as long as fits, in parts of " #part, part}
-    static const struct {
-        const char *client, *both, *site;
-        size_t part;
-    } KINDS[] = {IN_PARTS(1), IN_PARTS(2), IN_PARTS(3), IN_PARTS(4), IN_PARTS(8), IN_PARTS(16), IN_PARTS(64), IN_PARTS(255)};
-    for (size_t k = 0; k < sizeof KINDS / sizeof KINDS[0]; k++) {
-        try_parts(call, KINDS[k].client, KINDS[k].part, 'A');
-        try_parts(call, KINDS[k].both, KINDS[k].part, '.');
-        try_parts(call, KINDS[k].site, KINDS[k].part, 0);
-    }
-}
-
 static void messages(const char *what, call_fn *call)
 {
-    fillings(call);
-    parts(call);
+    begin4(&in, "DHCPv4, 2,048 bytes, nothing but padding and a name of 251 bytes");
+    put_longest4(&in);
+    end4(&in, "\0", 1);
+    try_accepted(call, &in);
+    begin4(&in, "DHCPv4, 2,048 bytes, as many options of no bytes as fit, and a name of 251 bytes");
+    put_longest4(&in);
+    end4(&in, "\200\0", 2);
+    try_accepted(call, &in);
+    begin4(&in, "DHCPv4, 2,048 bytes, as many options of one byte as fit, and a name of 251 bytes");
+    put_longest4(&in);
+    end4(&in, "\200\1\1", 3);
+    try_accepted(call, &in);
     make6(&in, "DHCPv6, 2,048 bytes, as many options of no bytes as fit, and a name of 255 bytes", 0);
     try_accepted(call, &in);
     make6(&in, "DHCPv6 in four relays, 2,048 bytes, the same on each level", 4);

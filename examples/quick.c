@@ -9,12 +9,12 @@ int main(void)
     const uint8_t request[300] = {[0] = 1, [236] = 99, 130, 83, 99, 53, 1, 3, 61, 7, 1, 7, 8, 9, 10, 11, 12, 255};
     const uint8_t address[4] = {192, 0, 2, 7};
     static uint8_t table[VICHRELKA_TABLE_LEN], listing[VICHRELKA_WRITTEN_LIMIT]; /* zeros: a table without names */
-    uint8_t name[VICHRELKA_NAME_LIMIT], dhcid[VICHRELKA_DHCID_LEN], work[VICHRELKA_WORK_LEN]; /* to join options in */
+    uint8_t name[VICHRELKA_NAME_LIMIT], dhcid[VICHRELKA_DHCID_LEN];
 
     uint64_t answer = vichrelka_name_from_text((const uint8_t *)"chi.example.com.", 16, name, sizeof name);
     size_t name_len = vichrelka_value(answer); /* 0 if it is refused: the next call then refuses it too */
     answer = vichrelka_dhcid(VICHRELKA_IPV4, VICHRELKA_SITE_ONLY, request, sizeof request, name, name_len,
-                             work, sizeof work, dhcid, sizeof dhcid);
+                             dhcid, sizeof dhcid);
     if (vichrelka_refusal(answer) == 0)
         answer = vichrelka_table_add(table, sizeof table, name, name_len, dhcid, sizeof dhcid,
                                      VICHRELKA_IPV4, address, sizeof address, VICHRELKA_FIRST_WINS);

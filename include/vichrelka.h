@@ -11,7 +11,7 @@
  * Every call answers one uint64_t: keep it in one. The low half is the number of a refusal, 0 if the call was
  * accepted. The high half is the call's value if it was accepted, and an offset into what was refused if it was
  * not. Take it apart with vichrelka_refusal, vichrelka_value and vichrelka_place. A refused call has changed
- * nothing, but for the work area of vichrelka_name and vichrelka_dhcid, whose comments say what it then holds.
+ * nothing.
  *
  *     uint64_t answer = vichrelka_listing_check(text, text_len);
  *     uint32_t refusal = vichrelka_refusal(answer);
@@ -52,9 +52,9 @@ extern "C" {
 
 /* The version. From 0.2.0 on the second number goes up with whatever adds a call, or changes what a call takes,
    answers or leaves, a byte form or a size. The third goes up with any other change. */
-#define VICHRELKA_VERSION "0.8.0"
+#define VICHRELKA_VERSION "0.7.0"
 #define VICHRELKA_VERSION_MAJOR 0
-#define VICHRELKA_VERSION_MINOR 8
+#define VICHRELKA_VERSION_MINOR 7
 #define VICHRELKA_VERSION_PATCH 0
 
 /* At every call: warn where its answer is dropped. Empty for a compiler that has no word for that. */
@@ -68,9 +68,6 @@ extern "C" {
 
 /* The most bytes that a DHCP message may have. */
 #define VICHRELKA_MESSAGE_LIMIT 2048
-
-/* The fewest bytes that a work area has: there a DHCPv4 message's options are joined. See vichrelka_name. */
-#define VICHRELKA_WORK_LEN 2048
 
 /* The most bytes that a name has in wire form, its last zero byte included. */
 #define VICHRELKA_NAME_LIMIT 255
@@ -132,16 +129,16 @@ enum vichrelka_refused {
     /* an option runs past the end, or DHCPv4 options have no End; a DHCPv6 level is empty, is shorter than its
        header, or is not just filled by its options; or a relay has no Relay Message option (9) */
     VICHRELKA_REFUSED_OPTIONS_MALFORMED = 4,
-    /* an option that matters is there twice: DHCPv4 52 (53, 61 and 81 may come in parts, and are joined); DHCPv6 9
-       in a relay, 1 or 39 in the client's message */
+    /* an option that matters is there twice: DHCPv4 52, 53, 61, 81; DHCPv6 9 in a relay, 1 or 39 in the client's
+       message */
     VICHRELKA_REFUSED_OPTION_REPEATED = 5,
     /* DHCPv4: Option Overload (52) is there */
     VICHRELKA_REFUSED_OPTION_OVERLOAD = 6,
-    /* DHCPv4: option 53, joined, is absent or not just the byte 3, DHCPREQUEST; DHCPv6: a level is not a Request,
-       Renew, Rebind or Relay-forward */
+    /* DHCPv4: option 53 is absent, or not just the byte 3, DHCPREQUEST; DHCPv6: a level is not a Request, Renew,
+       Rebind or Relay-forward */
     VICHRELKA_REFUSED_NOT_A_REQUEST = 7,
-    /* DHCPv4: option 61, joined, has fewer than 2 bytes, or it is absent and hlen is 0; DHCPv6: option 1 is absent, or
-       does not have 3 to 130 bytes */
+    /* DHCPv4: option 61 has fewer than 2 bytes, or is absent and hlen is 0; DHCPv6: option 1 is absent, or does not
+       have 3 to 130 bytes */
     VICHRELKA_REFUSED_NO_IDENTIFIER = 8,
     /* no name can be used: the site's is not proper, and the client's is not proper either or is not asked for; in
        add, remove, clear, find, the two calls on names in text, the block of a name, a lease and its end: the name
@@ -152,8 +149,7 @@ enum vichrelka_refused {
     VICHRELKA_REFUSED_TOO_MANY_RELAYS = 11,
     /* the family is not 4 or 6, or the setting or the policy is not 0 or 1 */
     VICHRELKA_REFUSED_UNKNOWN_SETTING = 12,
-    /* there is less room for the output, or for the table in a load or a replay, than what is to be written; or a work
-       area has fewer than VICHRELKA_WORK_LEN bytes */
+    /* there is less room for the output, or for the table in a load or a replay, than what is to be written */
     VICHRELKA_REFUSED_OUTPUT_SHORT = 13,
     /* identifier and name have more than 4,096 bytes together: a number of the rules that no message leads to */
     VICHRELKA_REFUSED_HASH_INPUT_LONG = 14,
@@ -225,12 +221,10 @@ enum vichrelka_policy {
     VICHRELKA_LATEST_WINS = 1
 };
 
-/* Where a chosen name is: in the message (a DHCPv6 client's name), in the site's name, or in the work area (a DHCPv4
-   client's name, always). */
+/* Where a chosen name is: in the message, or in the site's name. */
 enum vichrelka_source {
     VICHRELKA_SOURCE_MESSAGE = 0,
-    VICHRELKA_SOURCE_SITE = 1,
-    VICHRELKA_SOURCE_WORK = 2
+    VICHRELKA_SOURCE_SITE = 1
 };
 
 /* What a name server answered to an UPDATE message: the values of vichrelka_update_answer. "Messages for a name
@@ -328,8 +322,7 @@ static inline uint32_t vichrelka_name_len(uint64_t answer)
 /*
  * Choose the name of a DHCP request. Its value says where that name is, uncopied, with its letters in either case:
  *
- *     uint32_t source = vichrelka_name_source(answer);
- *     const uint8_t *name = source == VICHRELKA_SOURCE_SITE ? site : source == VICHRELKA_SOURCE_WORK ? work : message;
+ *     const uint8_t *name = vichrelka_name_source(answer) == VICHRELKA_SOURCE_SITE ? site : message;
  *     name += vichrelka_name_start(answer);
  *
  * Family 4 (VICHRELKA_IPV4) is a DHCPv4 message. Family 6 (VICHRELKA_IPV6) is a DHCPv6 message, which may be inside
@@ -339,27 +332,15 @@ static inline uint32_t vichrelka_name_len(uint64_t answer)
  * of 1 to 63 letters, digits, hyphens and underscores, each after a byte with its length, and a zero byte, which is
  * the last; it has no more than 255 bytes.
  *
- * DHCPv4 options 53, 61 and 81 may come in parts (RFC 3396). The data of all options with one of these codes, in the
- * order in which they are there before End, are joined, and the rules are about the joined data: an option whose parts
- * are all empty is there, with no data, and flag E is in the first joined byte of 81.
- *
- * The work area has VICHRELKA_WORK_LEN bytes or more, for either family, and overlaps no other slice. What it holds
- * before does not matter. Afterwards, if the family is 4 and the answer is neither 12, nor 13 for the area itself, nor
- * 1, 2, 3, 4, 5 or 6, it begins with the joined data of 53, then those of 61, then those of 81, also where the call was
- * refused, and the bytes behind them are as they were. In all other cases it is as it was. A name whose source is
- * VICHRELKA_SOURCE_WORK is there until the area is written again; vichrelka_dhcid of the same message and area leaves
- * it in its place. A zeroed area is as good as any other, and one area can serve every call of a thread.
- *
- * Refusals, in order, with place 0: 12; 13 for fewer than VICHRELKA_WORK_LEN bytes of work; the message's; 9. The
- * message's are 1, 2, 3, 4, 5, 6, 7 and 8 for DHCPv4. For DHCPv6 they are 1; then, level by level from the outermost
- * on, 4 if it is empty, 7, 11, 4 for its header and its options, and in a relay 4 for no option 9 and 5 for two; then,
- * in the client's message, 5 and 8. Nothing is written but the work area, as above.
+ * Refusals, in order, with place 0: 12; the message's; 9. The message's are 1, 2, 3, 4, 5, 6, 7 and 8 for DHCPv4.
+ * For DHCPv6 they are 1; then, level by level from the outermost on, 4 if it is empty, 7, 11, 4 for its header and
+ * its options, and in a relay 4 for no option 9 and 5 for two; then, in the client's message, 5 and 8. Nothing is
+ * written, whatever the answer.
  */
 VICHRELKA_NODISCARD
 uint64_t vichrelka_name(uint32_t family, uint32_t setting,
                         const uint8_t *message, size_t message_len,
-                        const uint8_t *site, size_t site_len,
-                        uint8_t *work, size_t work_len);
+                        const uint8_t *site, size_t site_len);
 
 /*
  * Compute the DHCID of a DHCP request (RFC 4701), for the name that vichrelka_name chooses. Its value is
@@ -368,22 +349,18 @@ uint64_t vichrelka_name(uint32_t family, uint32_t setting,
  * A DHCID is the type of the client's identifier in two bytes, the byte 1, and the SHA-256 of the identifier
  * followed by the name in lower case. The identifier is
  *
- *     type 2   the DUID: the data of DHCPv6 option 1, or the joined data of DHCPv4 option 61 behind the first five
- *              bytes, if the first is 255 and there are 8 to 135 of them (RFC 4361)
- *     type 1   the joined data of any other DHCPv4 option 61, however long
+ *     type 2   the DUID: the data of DHCPv6 option 1, or those of DHCPv4 option 61 behind the first five bytes, if the
+ *              first is 255 and there are 8 to 135 of them (RFC 4361)
+ *     type 1   the data of any other DHCPv4 option 61
  *     type 0   htype and the first hlen bytes of chaddr, of a DHCPv4 message without option 61
  *
- * The work area is lent and holds afterwards what it does for vichrelka_name, also if the DHCID is then refused with
- * 9 or with 13 for out.
- *
  * Refusals, in order, with place 0: those of vichrelka_name; 14, which no message leads to; 13 for fewer than
- * VICHRELKA_DHCID_LEN bytes of out. If it is refused, nothing is written but the work area.
+ * VICHRELKA_DHCID_LEN bytes of out. If it is refused, nothing is written.
  */
 VICHRELKA_NODISCARD
 uint64_t vichrelka_dhcid(uint32_t family, uint32_t setting,
                          const uint8_t *message, size_t message_len,
                          const uint8_t *site, size_t site_len,
-                         uint8_t *work, size_t work_len,
                          uint8_t *out, size_t out_len);
 
 /*

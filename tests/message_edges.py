@@ -7,7 +7,7 @@ import os
 import re
 from typing import Callable, Dict, List, NamedTuple, Tuple
 
-from message_model import DHCID_LENGTH, RELAY_FORWARD, WORK_LENGTH, Answer, Call, dhcid_bytes
+from message_model import DHCID_LENGTH, RELAY_FORWARD, Answer, Call, dhcid_bytes
 
 PATH = os.path.join(os.path.dirname(os.path.abspath(__file__)), "message_edges.txt")
 
@@ -85,10 +85,9 @@ def read_bytes(form: str, words: Dict[str, bytes]) -> Bytes:
 
 # Lines
 
-CALL = re.compile(r"(?P<word>name |dhcid )?(?P<family>\d+) (?P<setting>\d+)(?: (?P<out>\d+))?(?: work (?P<work>\d+))?")
-PARTS = r"\d+\+\d+(?: \d+\+\d+)*"
-ANSWER = re.compile(r"(?:refused (?P<refused>\d+)|type (?P<type>[012]): (?P<parts>%s); (?P<source>message|work|site)(?: (?P<name>\d+\+\d+))?"
-                    r"(?:; (?P<dhcid>[0-9a-f]{70}))?)(?:; area (?P<area>-|%s))?" % (PARTS, PARTS))
+CALL = re.compile(r"(?P<word>name |dhcid )?(?P<family>\d+) (?P<setting>\d+)(?: (?P<out>\d+))?")
+ANSWER = re.compile(r"refused (?P<refused>\d+)|type (?P<type>[012]): (?P<parts>\d+\+\d+(?: \d+\+\d+)?);"
+                    r" (?:message (?P<name>\d+\+\d+)|site)(?:; (?P<dhcid>[0-9a-f]{70}))?")
 
 
 def part_of(form: str) -> Tuple[int, int]:
@@ -96,48 +95,21 @@ def part_of(form: str) -> Tuple[int, int]:
     return int(start), int(length)
 
 
-def parts_of(data: bytes, form: str) -> bytes:
-    parts = [data[start:start + length] for start, length in map(part_of, form.split())]
-    if len(b"".join(parts)) != sum(length for _, length in map(part_of, form.split())):
-        raise ValueError("not so many bytes: " + form)
-    return b"".join(parts)
-
-
-def whole_options(message: bytes) -> bytes:
-    """The data of 53, 61 and 81 before End, none of which is there twice, and no 52"""
-    found, at = {}, 240
-    while message[at] != 255:
-        if message[at] != 0:
-            if message[at] in (53, 61, 81) and message[at] in found or message[at] == 52:
-                raise ValueError("say what the area holds")
-            found[message[at]] = message[at + 2:at + 2 + message[at + 1]]
-        at += 1 if message[at] == 0 else 2 + message[at + 1]
-    return b"".join(found.get(code, b"") for code in (53, 61, 81))
-
-
-def area_of(said: "re.Match[str]", call: Call) -> bytes:
-    """What the area begins with afterwards"""
-    if said["area"]:
-        return b"" if said["area"] == "-" else parts_of(call.message, said["area"])
-    is_as_it_was = call.family == 6 or call.work_len < WORK_LENGTH or said["refused"] in ("1", "2", "3", "4", "5", "6", "12")
-    return b"" if is_as_it_was else whole_options(call.message)
-
-
 def answer_of(form: str, call: Call) -> Answer:
     said = ANSWER.fullmatch(form)
-    if not said or (said["type"] and (said["source"] == "site") != (said["name"] is None)):
+    if not said:
         raise ValueError("no answer: " + form)
-    area = area_of(said, call)
     if said["refused"]:
-        return ("refused", int(said["refused"]), area)
+        return ("refused", int(said["refused"]))
     start, length = part_of(said["name"]) if said["name"] else (0, len(call.site))
+    name = (call.message if said["name"] else call.site)[start:start + length]
     if call.out_len is None:
-        return ("ok", said["source"], start, length, area)
-    name = {"message": call.message, "work": area, "site": call.site}[said["source"]][start:start + length]
-    dhcid = dhcid_bytes(int(said["type"]), parts_of(call.message, said["parts"]), name)
+        return ("ok", "message" if said["name"] else "site", start, length)
+    identifier = b"".join(call.message[first:first + count] for first, count in map(part_of, said["parts"].split()))
+    dhcid = dhcid_bytes(int(said["type"]), identifier, name)
     if said["dhcid"] and bytes.fromhex(said["dhcid"]) != dhcid:
         raise ValueError("type, identifier and name do not give this DHCID: " + form)
-    return ("ok", dhcid, area)
+    return ("ok", dhcid)
 
 
 def edges_of(line: str, words: Dict[str, bytes]) -> List[Edge]:
@@ -147,8 +119,7 @@ def edges_of(line: str, words: Dict[str, bytes]) -> List[Edge]:
         raise ValueError("no call: " + call_form)
     outs = [int(said["out"])] if said["out"] else [None] if said["word"] else [None, DHCID_LENGTH]
     message, site = read_bytes(message_form, words), read_bytes(site_form, words)
-    work = int(said["work"]) if said["work"] else WORK_LENGTH
-    calls = [Call(int(said["family"]), int(said["setting"]), message.data, site.data, work, out) for out in outs]
+    calls = [Call(int(said["family"]), int(said["setting"]), message.data, site.data, out) for out in outs]
     return [Edge(call, (message.zeros, site.zeros), answer_of(answer_form, call), why) for call in calls]
 
 

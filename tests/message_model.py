@@ -1,17 +1,15 @@
 """What the calls on DHCP requests have to answer: a second implementation of document 01's rules for messages, names and DHCIDs
-(docs/RULES.md, 3 to 5), with DHCPv4 options in parts as document 02, K2, has them.
+(docs/RULES.md, 3 to 5).
 
-It was written from the papers and the RFCs and not from the library, and goes another way: the options are read from a stream into a
+It was written from the paper and the RFCs and not from the library, and goes another way: the options are read from a stream into a
 list, and the list is then judged as a whole; a relay's message is read by reading the message inside it; a name is taken apart into
-labels and compared with their encoding; hashlib hashes. What the work area holds afterwards is said by itself, of the message and not of
-the answer.
+labels and compared with their encoding; hashlib hashes.
 
-    answer(call)      of a Call: ("ok", source, start, length, area) for a name, ("ok", the 35 bytes, area) for a DHCID, or
-                      ("refused", number, area); the area is what the work area begins with afterwards, no bytes if it is as it was
+    answer(call)      of a Call: ("ok", source, start, length) for a name, ("ok", the 35 bytes) for a DHCID, or ("refused", number)
     printed(answer)   an answer as the harness prints it
 
-A refusal has place 0 and writes nothing but that; an accepted DHCID leaves what stands behind its 35 bytes in out as it was, and every call
-what stands behind the joined bytes in the area. The harness looks at that by itself.
+A refusal has place 0 and writes nothing; an accepted DHCID leaves what stands behind its 35 bytes in out as it was. The harness looks at
+that by itself.
 """
 
 import hashlib
@@ -21,7 +19,6 @@ from collections import Counter
 from typing import Dict, Iterator, List, NamedTuple, Optional, Tuple, Union
 
 LIMIT = 2048
-WORK_LENGTH = 2048
 DHCID_LENGTH = 35
 HASHED_LIMIT = 4096
 
@@ -29,7 +26,7 @@ HASHED_LIMIT = 4096
  NO_PROPER_NAME) = range(1, 10)
 TOO_MANY_RELAYS, UNKNOWN_SETTING, OUTPUT_SHORT, HASH_INPUT_LONG = range(11, 15)
 
-Answer = Union[Tuple[str, str, int, int, bytes], Tuple[str, bytes, bytes], Tuple[str, int, bytes]]
+Answer = Union[Tuple[str, str, int, int], Tuple[str, bytes], Tuple[str, int]]
 
 
 class Call(NamedTuple):
@@ -37,7 +34,6 @@ class Call(NamedTuple):
     setting: int
     message: bytes
     site: bytes
-    work_len: int
     out_len: Optional[int]  # None if the call is vichrelka_name
 
 
@@ -46,7 +42,7 @@ class Refusal(Exception):
 
 
 class Part(NamedTuple):
-    """Bytes, and where in the message, or in the work area, they stand."""
+    """Bytes, and where in the message they stand."""
     start: int
     data: bytes
 
@@ -58,7 +54,6 @@ class Request(NamedTuple):
     """What a message says, if it is not refused."""
     type_code: int
     identifier: bytes
-    name_source: str
     client_name: Optional[Part]
 
 
@@ -74,11 +69,6 @@ class Options(NamedTuple):
 
     def by_code(self) -> Dict[int, Part]:
         return dict(self.parts)
-
-    def joined(self, code: int) -> Optional[bytes]:
-        """RFC 3396: the data of all options with this code, in their order; None if there is none."""
-        data = [part.data for given, part in self.parts if given == code]
-        return b"".join(data) if data else None
 
 
 def exactly(stream: io.BytesIO, count: int) -> bytes:
@@ -116,13 +106,13 @@ COOKIE = bytes([99, 130, 83, 99])
 DHCPREQUEST = b"\3"
 
 
-def identifier4(message: bytes, data: Optional[bytes]) -> Tuple[int, bytes]:
-    """Of the joined data of option 61"""
-    if data is None:
+def identifier4(message: bytes, option61: Optional[Part]) -> Tuple[int, bytes]:
+    if option61 is None:
         hlen = message[2]
         if hlen == 0:
             raise Refusal(NO_IDENTIFIER)
         return 0, message[1:2] + message[28:28 + hlen]
+    data = option61.data
     if len(data) < 2:
         raise Refusal(NO_IDENTIFIER)
     if data[0] == 255 and 3 <= len(data) - 5 <= 130:  # RFC 4361, 6.1: 255, four bytes of IAID, the DUID
@@ -130,15 +120,14 @@ def identifier4(message: bytes, data: Optional[bytes]) -> Tuple[int, bytes]:
     return 1, data
 
 
-def client_name4(option81: Part) -> Optional[Part]:
+def client_name4(option81: Optional[Part]) -> Optional[Part]:
     """RFC 4702, 2: flags, two bytes that mean nothing any more, the name; with flag E it is in wire form."""
-    if len(option81.data) < 3 or not option81.data[0] & 4:
+    if option81 is None or len(option81.data) < 3 or not option81.data[0] & 4:
         return None
     return option81.without(3)
 
 
-def read4(message: bytes) -> Options:
-    """The options of a message that can be taken apart"""
+def request4(message: bytes) -> Request:
     if not 240 <= len(message) <= LIMIT:
         raise Refusal(MESSAGE_LENGTH)
     if message[0] != 1 or message[236:240] != COOKIE:
@@ -147,34 +136,15 @@ def read4(message: bytes) -> Options:
         raise Refusal(HARDWARE_ADDRESS_LENGTH)
     stream = io.BytesIO(message)
     stream.seek(240)
-    return Options(list(options4(stream)))
-
-
-JOINED = (53, 61, 81)
-
-
-def request4(message: bytes) -> Request:
-    options = read4(message)
-    if options.repeated(52):
+    options = Options(list(options4(stream)))
+    if options.repeated(52, 53, 61, 81):
         raise Refusal(OPTION_REPEATED)
-    if 52 in options.by_code():
+    option = options.by_code()
+    if 52 in option:
         raise Refusal(OPTION_OVERLOAD)
-    option53, option61, option81 = map(options.joined, JOINED)
-    if option53 != DHCPREQUEST:
+    if 53 not in option or option[53].data != DHCPREQUEST:
         raise Refusal(NOT_A_REQUEST)
-    place = len(option53) + len(option61 or b"")  # of option 81 in the work area
-    return Request(*identifier4(message, option61), "work", client_name4(Part(place, option81 or b"")))
-
-
-def area4(message: bytes) -> bytes:
-    """What the work area begins with afterwards, if it is long enough and the setting is known; no bytes if it is as it was"""
-    try:
-        options = read4(message)
-    except Refusal:
-        return b""
-    if options.joined(52) is not None:
-        return b""
-    return b"".join(options.joined(code) or b"" for code in JOINED)
+    return Request(*identifier4(message, option.get(61)), client_name4(option.get(81)))
 
 
 REQUEST, RENEW, REBIND, RELAY_FORWARD = 3, 5, 6, 12
@@ -204,7 +174,7 @@ def level6(level: Part, relays: int) -> Request:
     if 1 not in option or not 3 <= len(option[1].data) <= 130:
         raise Refusal(NO_IDENTIFIER)
     has_name = 39 in option and option[39].data != b""
-    return Request(2, option[1].data, "message", option[39].without(1) if has_name else None)  # RFC 4704, 4: flags, the name
+    return Request(2, option[1].data, option[39].without(1) if has_name else None)  # RFC 4704, 4: flags, the name
 
 
 def request6(message: bytes) -> Request:
@@ -242,7 +212,7 @@ class Chosen(NamedTuple):
 
 
 def choice(setting: int, request: Request, site: bytes) -> Chosen:
-    candidates = [Chosen(request.name_source, request.client_name)] if setting == 1 and request.client_name is not None else []
+    candidates = [Chosen("message", request.client_name)] if setting == 1 and request.client_name is not None else []
     for chosen in candidates + [Chosen("site", Part(0, site))]:
         if is_proper(chosen.part.data):
             return chosen
@@ -256,16 +226,9 @@ def dhcid_bytes(type_code: int, identifier: bytes, name: bytes) -> bytes:
     return type_code.to_bytes(2, "big") + b"\1" + hashlib.sha256(identifier + name.lower()).digest()
 
 
-def is_known(call: Call) -> bool:
-    return call.family in READERS and call.setting in (0, 1)
-
-
-def answered(call: Call) -> Tuple:
-    """The answer without the area"""
-    if not is_known(call):
+def answered(call: Call) -> Answer:
+    if call.family not in READERS or call.setting not in (0, 1):
         raise Refusal(UNKNOWN_SETTING)
-    if call.work_len < WORK_LENGTH:
-        raise Refusal(OUTPUT_SHORT)
     request = READERS[call.family](call.message)
     chosen = choice(call.setting, request, call.site)
     name = chosen.part.data
@@ -279,17 +242,15 @@ def answered(call: Call) -> Tuple:
 
 
 def answer(call: Call) -> Answer:
-    area = area4(call.message) if is_known(call) and call.family == 4 and call.work_len >= WORK_LENGTH else b""
     try:
-        return (*answered(call), area)
+        return answered(call)
     except Refusal as refusal:
-        return ("refused", refusal.args[0], area)
+        return ("refused", refusal.args[0])
 
 
 def printed(given: Answer) -> str:
-    area = "work %s " % (given[-1].hex() or "-")
     if given[0] == "refused":
-        return area + "refused %d at 0" % given[1]
-    if len(given) == 3:
-        return area + "ok %d %s" % (len(given[1]), given[1].hex())
-    return area + "ok %s %d %d" % given[1:-1]
+        return "refused %d at 0" % given[1]
+    if len(given) == 2:
+        return "ok %d %s" % (len(given[1]), given[1].hex())
+    return "ok %s %d %d" % given[1:]

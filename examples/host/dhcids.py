@@ -21,6 +21,5 @@ for kind, identifier, name in (
     (0, "01 00 00 5e 00 53 2b", "base-1.bay3.example.net."),  # htype and hardware address
     (2, "00 03 00 01 00 00 5e 00 53 3c", "feed-1.bay3.example.net."),  # the DUID
     (2, "00 03 00 01 00 00 5e 00 53 3c", "unnamed.bay3.example.net."),  # the same head under the site's name
-    (2, "00 03 00 01 00 00 5e 00 53 4d", "valve-1.bay3.example.net."),  # a valve node's, from both parts of option 61
 ):
     print(name, dhcid(kind, identifier, name))

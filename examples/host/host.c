@@ -473,27 +473,19 @@ static int keep_ended(struct gateway *g, const struct lease *lease)
     return g->has_ended;
 }
 
-/* Where the chosen name begins, whose source is the message, the site's name or the work area. */
-static const uint8_t *find_chosen(uint64_t answer, const uint8_t *message, const uint8_t *site, const uint8_t *work)
-{
-    uint32_t source = vichrelka_name_source(answer);
-
-    return (source == VICHRELKA_SOURCE_SITE ? site : source == VICHRELKA_SOURCE_WORK ? work : message) + vichrelka_name_start(answer);
-}
-
-/* The name and the DHCID of a message's client: 0, or the refusal. The name is copied, since the next message is joined in the same work area. */
+/* The name and the DHCID of a message's client: 0, or the refusal. */
 static uint64_t read_client(const struct gateway *g, const uint8_t *message, size_t len, struct lease *lease)
 {
-    static uint8_t work[VICHRELKA_WORK_LEN]; /* one is enough: messages are read one after the other; what the last one left does not matter */
-    uint64_t answer = vichrelka_name(lease->family, g->setting, message, len, g->site, g->site_len, work, sizeof work);
+    uint64_t answer = vichrelka_name(lease->family, g->setting, message, len, g->site, g->site_len);
+    const uint8_t *name = (vichrelka_name_source(answer) == VICHRELKA_SOURCE_SITE ? g->site : message) + vichrelka_name_start(answer);
 
     if (vichrelka_refusal(answer) != 0)
         return answer;
     lease->name_len = (uint8_t)vichrelka_name_len(answer);
-    memcpy(lease->name, find_chosen(answer, message, g->site, work), lease->name_len);
+    memcpy(lease->name, name, lease->name_len);
     print_name(lease->name, lease->name_len);
     printf(": ");
-    answer = vichrelka_dhcid(lease->family, g->setting, message, len, g->site, g->site_len, work, sizeof work, lease->dhcid, sizeof lease->dhcid);
+    answer = vichrelka_dhcid(lease->family, g->setting, message, len, g->site, g->site_len, lease->dhcid, sizeof lease->dhcid);
     return vichrelka_refusal(answer) != 0 ? answer : 0;
 }
 

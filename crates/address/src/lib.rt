@@ -1,4 +1,6 @@
 // The data of A and AAAA records in text.
+#![tactic(auto)]
+
 ghost use Rattle.std.specs.Prelude.{◌≡◌, ℕ, ◌+◌, ◌*◌, ◌≤◌, ◌<◌, false, length, get_or, replicate};
 ghost use Rattle.base.specs.Bytes.{big_endian, overlay, tabulate};
 ghost use Rattle.base.specs.Logic.{Decides};

@@ -1,4 +1,6 @@
 // What every other crate stands on: the answer of a call, the refusal numbers, the test of a DHCID and the copy of bytes.
+#![tactic(auto)]
+
 pub mod ascii;
 pub mod dhcid;
 pub mod number;
@@ -11,7 +13,7 @@ ghost use Rattle.base.specs.declared.Answer.TheVariants.{Refused};
 
 // What a call answers: accepted, with a value that the call gives a meaning; or refused, with a number of `refusal`
 // and, where a listing was read, the offset of the faulty entry (document 01 calls it the place: docs/RULES.md, 1.3), else 0.
-#[derive(Drop)]
+#[derive(Clone, Copy)]
 pub enum Answer {
     Accepted(u32),
     Refused { number: u32, offset: u32 },

@@ -1,4 +1,6 @@
 // SHA-256 for the benchmark in bench/ alone: no part of the library that ships, and not in its header.
+#![tactic(auto)]
+
 ghost use Rattle.std.specs.Prelude.{◌≡◌};
 ghost use Rattle.hash.specs.Sha256.{sha256};
 

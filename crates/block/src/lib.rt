@@ -1,4 +1,6 @@
 // A stored block of 512 bytes: 480, and their SHA-256 behind them.
+#![tactic(auto)]
+
 ghost use Rattle.std.specs.Prelude.{◌≡◌, length, take};
 ghost use Rattle.base.specs.Logic.{Decides};
 ghost use Rattle.block.specs.Sealed.{body_size, block_size, sealed, IsSealed};

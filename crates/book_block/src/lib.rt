@@ -1,4 +1,6 @@
 // One block of the book of names: what it says, and how it is written.
+#![tactic(auto)]
+
 ghost use Rattle.std.specs.Prelude.{◌≡◌, length, take, drop};
 ghost use Rattle.base.specs.Logic.{Decides};
 ghost use Rattle.block.specs.Sealed.{block_size};

@@ -1,4 +1,6 @@
 // The book of names, judged, replayed and tidied. A call decides first and writes last, so a refused one has written nothing.
+#![tactic(auto)]
+
 mod beyond;
 pub mod judge;
 

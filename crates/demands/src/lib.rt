@@ -2,6 +2,8 @@
 // have drifted from it: each function calls the one that ships, with whatever it is given. None of this is in the archive. The row call is called with a row of four
 // places, since the borrow checker does not cover a lent row of any length; of every row `demand_3` is about the row call's promise. The last functions prove the power
 // cut of code: a run on stored sides that is cut, and the same again.
+#![tactic(auto)]
+
 ghost use Rattle.std.specs.Prelude.{◌≡◌, length};
 ghost use Rattle.base.specs.Answer.{Tells};
 ghost use Rattle.slots.specs.Sizes.{most_names};

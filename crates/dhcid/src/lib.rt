@@ -1,4 +1,6 @@
 // The name that a request gets, and the DHCID of the request under that name (RFC 4701).
+#![tactic(auto)]
+
 ghost use Rattle.std.specs.Prelude.{true, ◌≡◌, ◌∷◌, ◌++◌, ◌+◌, ◌*◌, ◌^◌, ◌≤◌, length};
 ghost use Rattle.base.specs.Bytes.{big_endian, overlay};
 ghost use Rattle.hash.specs.Sha256.{sha256};

@@ -1,4 +1,6 @@
 // The text of a DHCID: base64, or RFC 3597's generic form, in any number of words.
+#![tactic(auto)]
+
 ghost use Rattle.std.specs.Prelude.{◌≡◌, ◌⊎◌, List, [], ◌∷◌, ◌++◌, ℕ, ◌+◌, ◌%◌, ◌≤◌, ◌<◌, length, take};
 ghost use Rattle.base.specs.Bytes.{overlay, tabulate};
 ghost use Rattle.base.specs.Logic.{Decides};

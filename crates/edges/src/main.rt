@@ -1,5 +1,7 @@
 // The edges of document 01 that are not marked there, run. What must be printed, in the file `stdout`, was written from document 01 ("Both sides of
 // each edge"; docs/RULES.md, 9) before this program first ran. The marked ones are theorems: specs/Rows.antt.
+#![tactic(auto)]
+
 use base::Answer;
 use harness::{Line, first};
 use libc::STDOUT_FILENO;

@@ -1,4 +1,6 @@
 // One entry of a listing as a whole: no record, a record, or the number of its first fault; and where the next entry begins.
+#![tactic(auto)]
+
 mod data;
 mod head;
 
@@ -22,7 +24,7 @@ pub const TYPE_DHCID: u8 = 49;
 pub(crate) const NO_TYPE: u8 = 0;
 
 // A record, by value: 292 bytes. In a row of records it is what document 01 calls a place (docs/RULES.md, 6.5).
-#[derive(Drop)]
+#[derive(Clone, Copy)]
 pub struct Record {
     // the owner in canonical wire form, and zeros after it
     pub owner: [u8; 255],
@@ -33,14 +35,14 @@ pub struct Record {
 }
 
 // What an entry's words come to.
-#[derive(Drop)]
+#[derive(Clone, Copy)]
 pub enum Content {
     Nothing,
     Record,
     Fault(u32),
 }
 
-#[derive(Drop)]
+#[derive(Clone, Copy)]
 pub struct Entry {
     pub content: Content,
     // all zeros where the content is no record

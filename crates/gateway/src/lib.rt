@@ -1,5 +1,7 @@
 // The library's calls for C, one function each and thin: include/vichrelka.h says how C declares them, and what each answers. A slice is a pointer
 // and a length; what C owes for it is in docs/TRUST.md.
+#![tactic(auto)]
+
 ghost use Rattle.base.specs.Answer.{Tells};
 ghost use Rattle.book.specs.Calls.{BlockWritten, Replays, Tidies, CountsSound};
 ghost use Rattle.leases.specs.Calls.{Leases, Ends};

@@ -1,5 +1,7 @@
 // SHA-256 (FIPS 180-4). A running hash is begun, takes the message's bytes in any number of parts, and is finished; its digest is then the
 // message's. Each step takes the state by value and hands it on: 104 bytes, no heap.
+#![tactic(auto)]
+
 mod padding;
 
 ghost use Rattle.std.specs.Prelude.{◌≡◌};

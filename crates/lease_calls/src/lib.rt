@@ -1,5 +1,7 @@
 // A lease and its end, over the table and the reverse side. A call decides first and writes last, so a refused one has written nothing. A lease writes the table
 // and then the reverse side, its end the other way round: between the two steps no address has this name behind it that the name lacks.
+#![tactic(auto)]
+
 ghost use Rattle.std.specs.Prelude.{true, ◌≡◌, ◌<◌, length};
 ghost use Rattle.base.specs.Dhcid.{well_formed};
 ghost use Rattle.name.specs.Name.{Proper, canonical};

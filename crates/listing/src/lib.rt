@@ -1,4 +1,6 @@
 // Reading a listing: entry by entry, each byte looked at a bounded number of times, with one record in hand at most.
+#![tactic(auto)]
+
 ghost use Rattle.listing.specs.Reading.{Checks};
 ghost use Rattle.listing.specs.Giving.{StepIs};
 
@@ -39,14 +41,14 @@ pub fn check(text: &[u8]) -> Answer
 }
 
 // What stands next in a listing.
-#[derive(Drop)]
+#[derive(Clone, Copy)]
 pub enum Found {
     Record,
     End,
     Refused { number: u32, offset: u32 },
 }
 
-#[derive(Drop)]
+#[derive(Clone, Copy)]
 pub struct Step {
     pub found: Found,
     // all zeros where no record was found

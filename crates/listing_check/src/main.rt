@@ -1,6 +1,8 @@
 // Checks a listing. Standard input is the listing; standard output gets its records, each as the writer spells it, or one line such as `refused 24 at 0`
 // and no record. Where input or output fails, a line on the error stream says so and nothing more is printed: a read that failed does not pass for the
 // end of the listing.
+#![tactic(auto)]
+
 ghost use Rattle.std.specs.Prelude.{◌+◌, ◌≤◌, length};
 ghost use Rattle.grammar.specs.Listing.{ResourceRecord};
 ghost use Rattle.writer.specs.Line.{Writable, Holds};

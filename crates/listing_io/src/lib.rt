@@ -1,5 +1,7 @@
 // What the two programs that check a listing share: reading it from standard input, and printing a refusal. Where input or output fails they say so, so that a
 // read that failed does not pass for the end of the listing.
+#![tactic(auto)]
+
 ghost use Rattle.listing_io.specs.Coming as spec;
 
 use libc::{STDERR_FILENO, STDIN_FILENO, STDOUT_FILENO};

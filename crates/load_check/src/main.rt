@@ -1,6 +1,8 @@
 // Says what a load of a listing into a table would answer. Standard input is the listing; standard output gets `names N`, the number of its names, where it
 // would be loaded, or the refusal, `refused NUMBER at OFFSET`. After a 35 a second line has the name, the type and the offsets of the two records that are
 // alike, and after a 32 the number of names. Where input or output fails, a line on the error stream says so and nothing more is printed.
+#![tactic(auto)]
+
 ghost use Rattle.std.specs.Prelude.{◌≡◌, List, ◌+◌, ◌≤◌, length};
 ghost use Rattle.grammar.specs.Listing.{ResourceRecord};
 ghost use Rattle.listing.specs.Giving.{end, Gives};

@@ -1,4 +1,3 @@
 pub mod PartLaws
 pub mod RequestLaws
 pub mod SeenLaws
-pub mod JoinedLaws

@@ -1,7 +1,7 @@
 -- The options of DHCP messages, of either family: where their data stand in the message, and which have a code. Document 01, "Messages"
--- (docs/RULES.md, 4.1 and 4.3); document 02, K2 (4.2). Which bytes are a message's options is each family's own: Options4.antt of `message4`, Options6.antt of `message6`.
-use Rattle.std.specs.Prelude.{ℕ, Bool, cond, List, [], ◌∷◌, ◌++◌, eqb, leb, ltb, length}
-use Rattle.std.proofs.Math.Option.{Option, none, some}
+-- (docs/RULES.md, 4.1 and 4.3). Which bytes are a message's options is each family's own: Options4.antt of `message4`, Options6.antt of `message6`.
+use Rattle.std.specs.Prelude.{ℕ, Bool, cond, List, [], ◌∷◌, eqb, ltb, length}
+use Rattle.std.proofs.Math.Option.{Option}
 use Rattle.base.specs.Logic.{first_of}
 
 -- an option of a message: its code, where in the message its data start, and the data
@@ -17,29 +17,9 @@ unfoldable pub having : ℕ → List Located → List Located
 having code [] = []
 having code (l ∷ ls) = cond (eqb l.code code) (l ∷ having code ls) (having code ls)
 
-unfoldable pub is_there : ℕ → List Located → Bool
-is_there code ls = leb 1 (length (having code ls))
-
 unfoldable pub is_repeated : ℕ → List Located → Bool
 is_repeated code ls = ltb 1 (length (having code ls))
-
--- ---- in DHCPv6
 
 -- the option with a code; none where it is absent. Where it is repeated it is the first one, and nothing comes of it: such a message is refused with 5
 unfoldable pub option_of : ℕ → List Located → Option Located
 option_of code ls = first_of (having code ls)
-
--- ---- in DHCPv4, where an option may come in parts (RFC 3396)
-
--- the data of options, one after the other
-unfoldable pub together : List Located → List ℕ
-together [] = []
-together (l ∷ ls) = l.bytes ++ together ls
-
--- the data of all options with a code, in order of occurrence
-unfoldable pub joined : ℕ → List Located → List ℕ
-joined code ls = together (having code ls)
-
--- the data of the option with a code; none where it is absent. An option whose parts are all empty is there, with no bytes
-unfoldable pub option_data : ℕ → List Located → Option (List ℕ)
-option_data code ls = cond (is_there code ls) (some (joined code ls)) none

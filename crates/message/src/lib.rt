@@ -1,18 +1,20 @@
 // What a DHCP request of either family says: which client sent it, and which name it asks for. Both are parts of the message, uncopied.
+#![tactic(auto)]
+
 pub mod seen;
 
 ghost use Rattle.std.specs.Prelude.{◌≡◌};
 ghost use Rattle.message.specs.Request.{refused_request};
 
 // A part of the message: where it starts, and how many bytes it has.
-#[derive(Drop)]
+#[derive(Clone, Copy)]
 pub struct Part {
     pub start: usize,
     pub len: usize,
 }
 
 // What a request says. On a refusal all else is zero.
-#[derive(Drop)]
+#[derive(Clone, Copy)]
 pub struct Request {
     // the refusal's number; 0 where the request is accepted
     pub refusal: u32,

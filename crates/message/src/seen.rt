@@ -4,7 +4,7 @@ ghost use Rattle.message.specs.Seen as spec;
 
 use crate::Part;
 
-#[derive(Drop)]
+#[derive(Clone, Copy)]
 pub struct Seen {
     pub found: bool,
     // there is another one

@@ -9,16 +9,15 @@ use native.Mathlib.Omega.{arith}
 use lib.Dec.{eqb}
 use lib.ListN.{length, get_or, take, drop, take-append-drop}
 use lib.Seq.{take_at, drop_at, drop-cons, length-take-le}
-use borrow.Author.Tests.{le-leb, lt-leb, lt-ltb, le-ltb, eqb-true, eq-eqb, ne_eqb}
+use borrow.Author.Tests.{le-leb, lt-leb, eqb-true, eq-eqb, ne_eqb}
 use Rattle.base.specs.Logic.{Every}
-use Rattle.base.specs.Refusal.{message_length, not_bootrequest, hardware_address_length, options_malformed, option_repeated, option_overload}
-use Rattle.base.proofs.Lists.{no_elements}
+use Rattle.base.specs.Refusal.{not_bootrequest, hardware_address_length}
 use Rattle.base.proofs.Tests.{by_ltb, and_left, and_right, within, under, over}
-use Rattle.message.specs.Options.{Located, having, is_there, is_repeated}
+use Rattle.message.specs.Request.{refused_request}
 use Rattle.message.specs.declared.Request.{Request}
-use Rattle.message4.specs.Options4.{Field4, pad, option, bytes4, Code4, written4, Options4, located4}
-use Rattle.message4.specs.Message4.{Bootrequest, hlen, Header4, joined4, judge4, Reads4}
-use Rattle.message4.specs.Reading4.{before, field, fields_after, fields4, placed, options4, Reading, nothing_joined, is_bootrequest, with_options, by_options, after_header4, reading4}
+use Rattle.message4.specs.Options4.{Field4, pad, option, bytes4, Code4, written4, Options4}
+use Rattle.message4.specs.Message4.{Bootrequest, hlen, Header4, Reads4}
+use Rattle.message4.specs.Reading4.{before, field, fields_after, fields4, placed, options4, is_bootrequest, by_options, after_header4, request4}
 
 -- ---- one field
 
@@ -147,11 +146,6 @@ no_fields b never = go (fields4 b) refl
     go none e = refl
     go (some fs) e = absurd (never fs (fields_are e))
 
--- then no options are found
-no_options : (m : List ℕ) → ((fs : List Field4) → Options4 (drop 240 m) fs → ⊥) → after_header4 m ≡ nothing_joined options_malformed
-unfolding after_header4 options4
-no_options m never = ap (λ (r : Option (List Field4)). by_options m (placed 240 r)) (no_fields (drop 240 m) never)
-
 -- ---- the header
 
 module _ (m : List ℕ) (least : 240 ≤ length m) where
@@ -201,98 +195,54 @@ module _ (m : List ℕ) (least : 240 ≤ length m) where
 
 -- ---- the whole message
 
-module _ (m : List ℕ) (h : Header4 m) where
-  header_passes : reading4 m ≡ after_header4 m
-  unfolding reading4
-  header_passes = rw (within 240 (length m) 2048 h.least h.most, bootrequest_passes m h.least h.bootrequest, le-leb (hlen m) 16 h.address)
-
-  -- by the options ls, of which there are n with code 52
-  by_fields : {fs : List Field4} → Options4 (drop 240 m) fs → reading4 m ≡ with_options m (located4 240 fs)
-  unfolding after_header4 options4
-  by_fields o = header_passes ∙ ap (λ (r : Option (List Field4)). by_options m (placed 240 r)) (finds_fields o)
-
-module _ (m : List ℕ) (ls : List Located) where
-  options_repeated : 1 < length (having 52 ls) → with_options m ls ≡ nothing_joined option_repeated
-  unfolding with_options is_repeated
-  options_repeated h = rw (lt-ltb 1 (length (having 52 ls)) h)
-
-  options_overloaded : length (having 52 ls) ≡ 1 → with_options m ls ≡ nothing_joined option_overload
-  unfolding with_options is_repeated is_there
-  options_overloaded h = rw (le-ltb 1 (length (having 52 ls)) (omega (arith, h)), le-leb 1 (length (having 52 ls)) (omega (arith, h)))
-
-  options_judged : having 52 ls ≡ [] → with_options m ls ≡ record { joined = joined4 ls; request = judge4 m ls }
-  unfolding with_options is_repeated is_there
-  options_judged h = rw h
-
-pub reads_answer : {m j : List ℕ} {r : Request} → Reads4 m j r → reading4 m ≡ record { joined = j; request = r }
-unfolding reading4
+pub reads_answer : {m : List ℕ} {r : Request} → Reads4 m r → request4 m ≡ r
+unfolding request4 after_header4 options4
 reads_answer {m} (Reads4.too_short h) = rw (under 240 (length m) 2048 h)
 reads_answer {m} (Reads4.too_long h) = rw (over 240 (length m) 2048 h)
 reads_answer {m} (Reads4.no_bootrequest low high h) = rw (within 240 (length m) 2048 low high, no_bootrequest_fails m low h)
 reads_answer {m} (Reads4.long_address low high h over) = rw (within 240 (length m) 2048 low high, bootrequest_passes m low h, lt-leb (hlen m) 16 over)
-reads_answer {m} (Reads4.malformed h never) = header_passes m h ∙ no_options m never
-reads_answer {m} (Reads4.repeated {fs} h o n) = by_fields m h o ∙ options_repeated m (located4 240 fs) n
-reads_answer {m} (Reads4.overloaded {fs} h o n) = by_fields m h o ∙ options_overloaded m (located4 240 fs) n
-reads_answer {m} (Reads4.judged {fs} h o n) = by_fields m h o ∙ options_judged m (located4 240 fs) n
+reads_answer {m} (Reads4.malformed h never) =
+    rw (within 240 (length m) 2048 h.least h.most, bootrequest_passes m h.least h.bootrequest, le-leb (hlen m) 16 h.address, no_fields (drop 240 m) never)
+reads_answer {m} (Reads4.judged h o) =
+    rw (within 240 (length m) 2048 h.least h.most, bootrequest_passes m h.least h.bootrequest, le-leb (hlen m) 16 h.address, finds_fields o)
 
--- what is answered, as the relation has it
-Is : List ℕ → Reading → Type 0
-Is m a = Reads4 m a.joined a.request
-
-with_options_lem : (m : List ℕ) (fs : List Field4) → Header4 m → Options4 (drop 240 m) fs → Is m (with_options m (located4 240 fs))
-unfolding Is
-with_options_lem m fs h o =
-    by_ltb 1 (length (having 52 (located4 240 fs)))
-    (λ n. subst (Is m) (sym (options_repeated m (located4 240 fs) n)) (Reads4.repeated h o n))
-    (λ few. by_ltb 0 (length (having 52 (located4 240 fs)))
-    (λ some_there. let n : length (having 52 (located4 240 fs)) ≡ 1 = omega arith in subst (Is m) (sym (options_overloaded m (located4 240 fs) n)) (Reads4.overloaded h o n))
-    (λ none_there. let n = no_elements (having 52 (located4 240 fs)) (omega arith) in subst (Is m) (sym (options_judged m (located4 240 fs) n)) (Reads4.judged h o n)))
-
-after_header : (m : List ℕ) → Header4 m → Is m (after_header4 m)
-unfolding after_header4 options4 Is
+after_header : (m : List ℕ) → Header4 m → Reads4 m (after_header4 m)
+unfolding after_header4 options4
 after_header m h = go (fields4 (drop 240 m)) refl
   where
-    go : (r : Option (List Field4)) → fields4 (drop 240 m) ≡ r → Is m (by_options m (placed 240 r))
+    go : (r : Option (List Field4)) → fields4 (drop 240 m) ≡ r → Reads4 m (by_options m (placed 240 r))
     go none e = Reads4.malformed h (never_fields e)
-    go (some fs) e = with_options_lem m fs h (fields_are e)
+    go (some fs) e = Reads4.judged h (fields_are e)
 
 -- every message is answered with what the function finds
-pub answer_reads : (m : List ℕ) → Reads4 m (reading4 m).joined (reading4 m).request
+pub answer_reads : (m : List ℕ) → Reads4 m (request4 m)
+unfolding request4
 answer_reads m = by_ltb (length m) 240 short (λ low. by_ltb 2048 (length m) long (λ high. go low high (is_bootrequest m) refl))
   where
-    answered : (a : Reading) → reading4 m ≡ a → Is m a → Reads4 m (reading4 m).joined (reading4 m).request
-    unfolding Is
-    answered a e h = subst (Is m) (sym e) h
+    short : length m < 240 → Reads4 m (request4 m)
+    short h = rw (under 240 (length m) 2048 h) (Reads4.too_short h)
 
-    short : length m < 240 → Reads4 m (reading4 m).joined (reading4 m).request
-    unfolding Is
-    short h = answered (nothing_joined message_length) (reads_answer {m = m} (Reads4.too_short h)) (Reads4.too_short h)
+    long : 2048 < length m → Reads4 m (request4 m)
+    long h = rw (over 240 (length m) 2048 h) (Reads4.too_long h)
 
-    long : 2048 < length m → Reads4 m (reading4 m).joined (reading4 m).request
-    unfolding Is
-    long h = answered (nothing_joined message_length) (reads_answer {m = m} (Reads4.too_long h)) (Reads4.too_long h)
-
-    go : 240 ≤ length m → length m ≤ 2048 → (t : Bool) → is_bootrequest m ≡ t → Reads4 m (reading4 m).joined (reading4 m).request
-    unfolding Is
-    go low high false e =
-        let is = Reads4.no_bootrequest low high (fails_no_bootrequest m low e) in
-        answered (nothing_joined not_bootrequest) (reads_answer {m = m} is) is
+    go : 240 ≤ length m → length m ≤ 2048 → (t : Bool) → is_bootrequest m ≡ t → Reads4 m (request4 m)
+    go low high false e = rw (within 240 (length m) 2048 low high, e) (Reads4.no_bootrequest low high (fails_no_bootrequest m low e))
     go low high true e =
         let b = passes_bootrequest m low e in
         by_ltb 16 (hlen m)
-        (λ over. let is = Reads4.long_address low high b over in answered (nothing_joined hardware_address_length) (reads_answer {m = m} is) is)
-        (λ fits. let h : Header4 m = record { least = low; most = high; bootrequest = b; address = fits } in answered (after_header4 m) (header_passes m h) (after_header m h))
+        (λ over. rw (within 240 (length m) 2048 low high, e, lt-leb (hlen m) 16 over) (Reads4.long_address low high b over))
+        (λ fits. rw (within 240 (length m) 2048 low high, e, le-leb (hlen m) 16 fits) (after_header m (record { least = low; most = high; bootrequest = b; address = fits })))
 
 -- the function by the tests that it makes
 module _ (m : List ℕ) (low : 240 ≤ length m) (high : length m ≤ 2048) where
-  pub answer_no_bootrequest : is_bootrequest m ≡ false → reading4 m ≡ nothing_joined not_bootrequest
-  unfolding reading4
+  pub answer_no_bootrequest : is_bootrequest m ≡ false → refused_request not_bootrequest ≡ request4 m
+  unfolding request4
   answer_no_bootrequest e = rw (within 240 (length m) 2048 low high, e)
 
-  pub answer_long_address : is_bootrequest m ≡ true → 16 < hlen m → reading4 m ≡ nothing_joined hardware_address_length
-  unfolding reading4
+  pub answer_long_address : is_bootrequest m ≡ true → 16 < hlen m → refused_request hardware_address_length ≡ request4 m
+  unfolding request4
   answer_long_address e over = rw (within 240 (length m) 2048 low high, e, lt-leb (hlen m) 16 over)
 
-  pub answer_options : is_bootrequest m ≡ true → hlen m ≤ 16 → after_header4 m ≡ reading4 m
-  unfolding reading4
+  pub answer_options : is_bootrequest m ≡ true → hlen m ≤ 16 → after_header4 m ≡ request4 m
+  unfolding request4
   answer_options e fits = rw (within 240 (length m) 2048 low high, e, le-leb (hlen m) 16 fits)

@@ -2,7 +2,5 @@ pub mod Laws4
 pub mod PartLaws4
 pub mod JudgeLaws4
 pub mod WalkLaws4
-pub mod JoinLaws4
-pub mod AreaLaws4
 pub mod PlaceLaws4
 pub mod Theorems

@@ -1,6 +1,6 @@
 -- Where the options of a message stand, and the parts of its answer. Assumes nothing.
 use Prim.Native.Nat.{ℕ, ◌+◌, ◌-◌, ◌≤◌, ◌<◌}
-use mathlib.Core.Bool.{Bool, true, false, cond, ◌&&◌}
+use mathlib.Core.Bool.{Bool, true, false, cond, ◌&&◌, ◌||◌}
 use mathlib.Core.Path.{◌≡◌, refl, sym, ap, ◌∙◌}
 use mathlib.Core.List.{List, [], ◌∷◌, ◌++◌, append_assoc}
 use mathlib.Core.Option.{Option, none, some}
@@ -9,18 +9,17 @@ use lib.Dec.{leb, eqb}
 use lib.ListN.{length, get_or, take, drop, length-append, length-drop}
 use lib.Seq.{take_at, drop_at, drop-drop}
 use borrow.Author.Tests.{leb-true, eqb-false}
-use Rattle.base.specs.Logic.{Every, IfSome}
+use Rattle.base.specs.Logic.{Every, IfSome, first_of}
 use Rattle.base.proofs.Lists.{drop_head, drop_next, every_at}
 use Rattle.base.proofs.Tests.{and_left, and_right}
-use Rattle.message.specs.Options.{Located, is_there, joined, option_data}
+use Rattle.message.specs.Options.{Located, having, is_repeated, option_of}
 use Rattle.message.specs.Request.{bytes_of, Inside, refused_request, no_part, Identifier, identifier_bytes, name_part, accepted, identified}
 use Rattle.message.specs.declared.Part.{Part}
 use Rattle.message.specs.declared.Request.{Request}
 use Rattle.message.proofs.PartLaws.{part_length}
 use Rattle.message4.specs.Options4.{Field4, pad, option, bytes4, written4, located4}
-use Rattle.message4.specs.Message4.{hlen, Header4, is_request, has_duid, identifier4, has_wire_name, name4, joined4, judge4, Reads4, identifier_in4, identifier_bytes4}
+use Rattle.message4.specs.Message4.{hlen, Header4, is_request, has_duid, identifier4, has_wire_name, name4, judge4, Reads4}
 use Rattle.message4.specs.Judging4.{DataIn}
-use Rattle.message4.proofs.AreaLaws4.{length_joined4, joined_fits}
 
 -- ---- the options
 
@@ -56,98 +55,95 @@ located_in m (option c d ∷ fs) at t e =
 
 -- ---- the parts of an answer
 
--- where they lie: the identifier within the message or the joined options, the name within the joined options; the identifier has 2 to 1,808 bytes, and as a DUID
--- 3 to 130
-pub record Placed (m j : List ℕ) (r : Request) : Type 0 where
-  pub id_head : Inside (identifier_in4 m j r) r.id_head
-  pub id : Inside (identifier_in4 m j r) r.id
-  pub name : Inside j r.name
-  pub least : 2 ≤ length (identifier_bytes4 m j r)
-  pub most : length (identifier_bytes4 m j r) ≤ 1808
-  pub duid : r.id_type ≡ 2 → (3 ≤ length (identifier_bytes4 m j r)) × (length (identifier_bytes4 m j r) ≤ 130)
-  pub type : r.id_type ≤ 2
+-- where they lie: within the message; the identifier has 2 to 255 bytes, and as a DUID 3 to 130
+pub record Placed (m : List ℕ) (r : Request) : Type 0 where
+  pub id_head : Inside m r.id_head
+  pub id : Inside m r.id
+  pub name : Inside m r.name
+  pub least : 2 ≤ length (identifier_bytes m r)
+  pub most : Every (λ b. b < 256) m → length (identifier_bytes m r) ≤ 255
+  pub duid : r.id_type ≡ 2 → (3 ≤ length (identifier_bytes m r)) × (length (identifier_bytes m r) ≤ 130)
 
--- what an option's data have, if it is there
-option_has : (P : List ℕ → Type 0) (code : ℕ) (ls : List Located) → P (joined code ls) → IfSome P (option_data code ls)
-unfolding option_data
-option_has P code ls p = go (is_there code ls)
-  where
-    go : (t : Bool) → IfSome P (cond t (some (joined code ls)) none)
-    go true = p
-    go false = tt
+-- what an option holds, if there is one
+module _ (P : Located → Type 0) (code : ℕ) where
+  kept_first : (l : Located) (ls : List Located) (t : Bool) → P l → IfSome P (first_of (having code ls)) → IfSome P (first_of (cond t (l ∷ having code ls) (having code ls)))
+  kept_first l ls true p rest = p
+  kept_first l ls false p rest = rest
 
-module _ (m j : List ℕ) where
+  option_holds : (ls : List Located) → Every P ls → IfSome P (option_of code ls)
+  unfolding option_of having
+  option_holds [] Every.none = tt
+  option_holds (l ∷ ls) (Every.more p ps) = kept_first l ls (eqb l.code code) p (option_holds ls ps)
+
+module _ (m : List ℕ) where
   record IdPlaced (i : Identifier) : Type 0 where
-    head_inside : Inside (cond (eqb i.type 0) m j) i.head
-    rest_inside : Inside (cond (eqb i.type 0) m j) i.rest
+    head_inside : Inside m i.head
+    rest_inside : Inside m i.rest
     least : 2 ≤ i.head.len + i.rest.len
-    most : i.head.len + i.rest.len ≤ 1808
+    most : Every (λ b. b < 256) m → i.head.len + i.rest.len ≤ 255
     duid : i.type ≡ 2 → (3 ≤ i.head.len + i.rest.len) × (i.head.len + i.rest.len ≤ 130)
-    type : i.type ≤ 2
 
   by_address : 240 ≤ length m → hlen m ≤ 16 → (t : Bool) → eqb (hlen m) 0 ≡ t
       → IfSome IdPlaced (cond t none (some (record { type = 0; head = record { start = 1; len = 1 }; rest = record { start = 28; len = hlen m } })))
   by_address low most true e = tt
   by_address low most false e =
       let some_bytes = eqb-false (hlen m) 0 e in
-      record { head_inside = omega arith; rest_inside = omega arith; least = omega arith; most = omega arith; duid = λ z. absurd (omega arith); type = omega arith }
+      record { head_inside = omega arith; rest_inside = omega arith; least = omega arith; most = λ b. omega arith; duid = λ z. absurd (omega arith) }
 
-  module _ (at : ℕ) (d : List ℕ) (fits : at + length d ≤ length j) where
-    all_placed : length j ≤ 1808 → (t : Bool) → leb 2 (length d) ≡ t
-        → IfSome IdPlaced (cond t (some (record { type = 1; head = no_part; rest = record { start = at; len = length d } })) none)
-    all_placed short true e =
-        let two = leb-true 2 (length d) e in
-        record { head_inside = omega arith; rest_inside = fits; least = omega arith; most = omega arith; duid = λ z. absurd (omega arith); type = omega arith }
-    all_placed short false e = tt
+  module _ (l : Located) (h : DataIn m l) where
+    all_placed : (t : Bool) → leb 2 (length l.bytes) ≡ t
+        → IfSome IdPlaced (cond t (some (record { type = 1; head = no_part; rest = record { start = l.start; len = length l.bytes } })) none)
+    all_placed true e =
+        let two = leb-true 2 (length l.bytes) e in
+        record { head_inside = omega arith; rest_inside = h.fits; least = omega arith; most = λ b. omega (arith, h.short b); duid = λ z. absurd (omega arith) }
+    all_placed false e = tt
 
-    duid_placed : length j ≤ 1808 → (t : Bool) → has_duid d ≡ t → IfSome IdPlaced (cond t (some (record { type = 2; head = no_part; rest = record { start = at + 5; len = length d - 5 } }))
-        (cond (leb 2 (length d)) (some (record { type = 1; head = no_part; rest = record { start = at; len = length d } })) none))
+    duid_placed : (t : Bool) → has_duid l ≡ t → IfSome IdPlaced (cond t (some (record { type = 2; head = no_part; rest = record { start = l.start + 5; len = length l.bytes - 5 } }))
+        (cond (leb 2 (length l.bytes)) (some (record { type = 1; head = no_part; rest = record { start = l.start; len = length l.bytes } })) none))
     unfolding has_duid
-    duid_placed short true e =
-        let first = eqb (get_or d 0 0) 255 in
-        let low = leb-true 8 (length d) (and_right first (leb 8 (length d)) (and_left (first && leb 8 (length d)) (leb (length d) 135) e)) in
-        let high = leb-true (length d) 135 (and_right (first && leb 8 (length d)) (leb (length d) 135) e) in
+    duid_placed true e =
+        let n = length l.bytes in
+        let first = eqb (get_or l.bytes 0 0) 255 in
+        let low = leb-true 8 n (and_right first (leb 8 n) (and_left (first && leb 8 n) (leb n 135) e)) in
+        let high = leb-true n 135 (and_right (first && leb 8 n) (leb n 135) e) in
         record {
           head_inside = omega arith;
-          rest_inside = omega arith;
+          rest_inside = omega (arith, h.fits);
           least = omega arith;
-          most = omega arith;
+          most = λ b. omega arith;
           duid = λ z. (omega arith, omega arith);
-          type = omega arith;
         }
-    duid_placed short false e = all_placed short (leb 2 (length d)) refl
+    duid_placed false e = all_placed (leb 2 (length l.bytes)) refl
 
-    wire_placed : (t : Bool) → has_wire_name d ≡ t → IfSome (Inside j) (cond t (some (record { start = at + 3; len = length d - 3 })) none)
+    wire_placed : (t : Bool) → has_wire_name l ≡ t → IfSome (Inside m) (cond t (some (record { start = l.start + 3; len = length l.bytes - 3 })) none)
     unfolding has_wire_name
     wire_placed true e =
-        let three = leb-true 3 (length d) (and_left (leb 3 (length d)) _ e) in
-        omega arith
+        let three = leb-true 3 (length l.bytes) (and_left (leb 3 (length l.bytes)) _ e) in
+        omega (arith, h.fits)
     wire_placed false e = tt
 
-  identifier_placed : 240 ≤ length m → hlen m ≤ 16 → length j ≤ 1808 → (at : ℕ) (o : Option (List ℕ)) → IfSome (λ d. at + length d ≤ length j) o
-      → IfSome IdPlaced (identifier4 m at o)
-  identifier_placed low most short at none h = by_address low most (eqb (hlen m) 0) refl
-  identifier_placed low most short at (some d) h = duid_placed at d h short (has_duid d) refl
+  identifier_placed : 240 ≤ length m → hlen m ≤ 16 → (o : Option Located) → IfSome (DataIn m) o → IfSome IdPlaced (identifier4 m o)
+  identifier_placed low most none h = by_address low most (eqb (hlen m) 0) refl
+  identifier_placed low most (some l) h = duid_placed l h (has_duid l) refl
 
-  name_placed : (at : ℕ) (o : Option (List ℕ)) → IfSome (λ d. at + length d ≤ length j) o → IfSome (Inside j) (name4 at o)
-  name_placed at none h = tt
-  name_placed at (some d) h = wire_placed at d h (has_wire_name d) refl
+  name_placed : (o : Option Located) → IfSome (DataIn m) o → IfSome (Inside m) (name4 o)
+  name_placed none h = tt
+  name_placed (some l) h = wire_placed l h (has_wire_name l) refl
 
-  name_inside : (o : Option Part) → IfSome (Inside j) o → Inside j (name_part o)
+  name_inside : (o : Option Part) → IfSome (Inside m) o → Inside m (name_part o)
   name_inside none h = omega arith
   name_inside (some p) h = h
 
-  accepted_length : (i : Identifier) (n : Option Part) → IdPlaced i → length (identifier_bytes4 m j (accepted i n)) ≡ i.head.len + i.rest.len
-  unfolding identifier_bytes4 identifier_bytes accepted
+  accepted_length : (i : Identifier) (n : Option Part) → IdPlaced i → length (identifier_bytes m (accepted i n)) ≡ i.head.len + i.rest.len
+  unfolding identifier_bytes accepted
   accepted_length i n h =
-      let b = cond (eqb i.type 0) m j in
-      length-append (bytes_of b i.head) (bytes_of b i.rest) ∙ λ k. part_length b i.head h.head_inside k + part_length b i.rest h.rest_inside k
+      length-append (bytes_of m i.head) (bytes_of m i.rest) ∙ λ k. part_length m i.head h.head_inside k + part_length m i.rest h.rest_inside k
 
   -- an answer, if it is no refusal
   Sound : Request → Type 0
-  Sound r = r.refusal ≡ 0 → Placed m j r
+  Sound r = r.refusal ≡ 0 → Placed m r
 
-  identified_sound : (i : Option Identifier) (n : Option Part) → IfSome IdPlaced i → IfSome (Inside j) n → Sound (identified i n)
+  identified_sound : (i : Option Identifier) (n : Option Part) → IfSome IdPlaced i → IfSome (Inside m) n → Sound (identified i n)
   unfolding Sound refused_request accepted
   identified_sound none n h k e = absurd (omega arith)
   identified_sound (some i) n h k e =
@@ -157,9 +153,8 @@ module _ (m j : List ℕ) where
         id = h.rest_inside;
         name = name_inside n k;
         least = omega (arith, size, h.least);
-        most = omega (arith, size, h.most);
+        most = λ b. omega (arith, size, h.most b);
         duid = λ z. let d = h.duid z in (omega (arith, size), omega (arith, size));
-        type = h.type;
       }
 
   refused_sound : (n : ℕ) → 1 ≤ n → Sound (refused_request n)
@@ -170,37 +165,21 @@ module _ (m j : List ℕ) where
   either_sound true a b h k = h
   either_sound false a b h k = k
 
-judged_sound : (m : List ℕ) → Header4 m → (ls : List Located) → length (joined4 ls) ≤ 1808 → Sound m (joined4 ls) (judge4 m ls)
-unfolding judge4
-judged_sound m h ls short =
-    let j = joined4 ls in
-    let size = length_joined4 ls in
-    let id = length (joined 53 ls) in
-    let name = length (joined 53 ls) + length (joined 61 ls) in
-    either_sound m j (is_request (option_data 53 ls)) _ _
-    (identified_sound m j (identifier4 m id (option_data 61 ls)) (name4 name (option_data 81 ls))
-    (identifier_placed m j h.least h.address short id (option_data 61 ls) (option_has (λ d. id + length d ≤ length j) 61 ls (omega (arith, size))))
-    (name_placed m j name (option_data 81 ls) (option_has (λ d. name + length d ≤ length j) 81 ls (omega (arith, size)))))
-    (refused_sound m j 7 (omega arith))
+  judged_sound : Header4 m → (ls : List Located) → Every (DataIn m) ls → Sound (judge4 m ls)
+  unfolding judge4
+  judged_sound h ls ds =
+      either_sound (is_repeated 52 ls || is_repeated 53 ls || is_repeated 61 ls || is_repeated 81 ls) _ _ (refused_sound 5 (omega arith))
+      (either_sound (leb 1 (length (having 52 ls))) _ _ (refused_sound 6 (omega arith))
+      (either_sound (is_request (option_of 53 ls)) _ _
+      (identified_sound (identifier4 m (option_of 61 ls)) (name4 (option_of 81 ls))
+      (identifier_placed h.least h.address (option_of 61 ls) (option_holds (DataIn m) 61 ls ds)) (name_placed (option_of 81 ls) (option_holds (DataIn m) 81 ls ds)))
+      (refused_sound 7 (omega arith))))
 
--- what is joined is part of the message's options
-pub joined_most : {m j : List ℕ} {r : Request} → Reads4 m j r → length j ≤ length m - 240
-joined_most (Reads4.too_short h) = omega arith
-joined_most (Reads4.too_long h) = omega arith
-joined_most (Reads4.no_bootrequest low high h) = omega arith
-joined_most (Reads4.long_address low high h over) = omega arith
-joined_most (Reads4.malformed h never) = omega arith
-joined_most (Reads4.repeated h o n) = omega arith
-joined_most (Reads4.overloaded h o n) = omega arith
-joined_most {m} (Reads4.judged {fs} h o n) = omega (arith, joined_fits m fs h.least o)
-
-pub placed_by : {m j : List ℕ} {r : Request} → Reads4 m j r → r.refusal ≡ 0 → Placed m j r
+pub placed_by : {m : List ℕ} {r : Request} → Reads4 m r → r.refusal ≡ 0 → Placed m r
 unfolding Sound
-placed_by {m} (Reads4.too_short h) = refused_sound m [] 1 (omega arith)
-placed_by {m} (Reads4.too_long h) = refused_sound m [] 1 (omega arith)
-placed_by {m} (Reads4.no_bootrequest low high h) = refused_sound m [] 2 (omega arith)
-placed_by {m} (Reads4.long_address low high h over) = refused_sound m [] 3 (omega arith)
-placed_by {m} (Reads4.malformed h never) = refused_sound m [] 4 (omega arith)
-placed_by {m} (Reads4.repeated h o n) = refused_sound m [] 5 (omega arith)
-placed_by {m} (Reads4.overloaded h o n) = refused_sound m [] 6 (omega arith)
-placed_by {m} (Reads4.judged {fs} h o n) = judged_sound m h (located4 240 fs) (omega (arith, joined_fits m fs h.least o, h.most))
+placed_by {m} (Reads4.too_short h) = refused_sound m 1 (omega arith)
+placed_by {m} (Reads4.too_long h) = refused_sound m 1 (omega arith)
+placed_by {m} (Reads4.no_bootrequest low high h) = refused_sound m 2 (omega arith)
+placed_by {m} (Reads4.long_address low high h over) = refused_sound m 3 (omega arith)
+placed_by {m} (Reads4.malformed h never) = refused_sound m 4 (omega arith)
+placed_by {m} (Reads4.judged {fs} h o) = judged_sound m h (located4 240 fs) (located_in m fs 240 _ o.cut)

@@ -1,6 +1,6 @@
 -- The walk over the options of a DHCPv4 message: what was passed, and what is then still to come. Assumes nothing.
 use Prim.Native.Nat.{ℕ, suc, ◌+◌, ◌-◌, ◌≤◌, ◌<◌}
-use mathlib.Core.Path.{◌≡◌, refl, sym, ap, ap₂, subst, ◌∙◌}
+use mathlib.Core.Path.{◌≡◌, refl, sym, ap, ap₂, ◌∙◌}
 use mathlib.Core.List.{List, [], ◌∷◌, ◌++◌, append_assoc, append-nil}
 use mathlib.Core.Option.{Option, none, some}
 use native.Mathlib.Numerals.{add-one}
@@ -11,13 +11,13 @@ use Rattle.base.specs.Logic.{Every}
 use Rattle.base.specs.Refusal.{options_malformed}
 use Rattle.base.proofs.Lists.{every_append, every_at}
 use Rattle.message.specs.Options.{Located}
+use Rattle.message.specs.Request.{refused_request}
 use Rattle.message4.specs.Options4.{Field4, pad, option, located4}
-use Rattle.message4.specs.Reading4.{before, fields_after, fields4, placed, options4, listed, options_in, nothing_joined, by_options, after_header4}
-use Rattle.message4.specs.Judging4.{wanted_of, noted, DataIn}
-use Rattle.message4.specs.Joining4.{Walked}
+use Rattle.message4.specs.Reading4.{before, fields_after, fields4, placed, options4, by_options, after_header4}
+use Rattle.message4.specs.Judging4.{wanted_of, noted, WantedInside, DataIn, judged_by}
 use Rattle.message4.specs.declared.Wanted.{Wanted}
 use Rattle.message4.proofs.Laws4.{field_pad, field_end, field_option, fields_skip}
-use Rattle.message4.proofs.JudgeLaws4.{noted_next}
+use Rattle.message4.proofs.JudgeLaws4.{noted_next, wanted_inside, judged_by}
 
 -- ---- what the first field of an options field comes to, at the offset at
 
@@ -43,30 +43,30 @@ unfolding fields_after
 fields_over b k h = fields_skip b k ∙ ap (λ (x : List ℕ). fields_after x 0) (drop_of_length-le b h)
 
 module _ (at : ℕ) where
-  pub options_none : options4 at [] ≡ none
+  options_none : options4 at [] ≡ none
   unfolding options4 fields4 fields_after
   options_none = refl
 
-  pub options_pad : (b : List ℕ) → options4 at (0 ∷ b) ≡ options4 (at + 1) b
+  options_pad : (b : List ℕ) → options4 at (0 ∷ b) ≡ options4 (at + 1) b
   unfolding options4 fields4 fields_after
   options_pad b = ap (placed at) (field_pad b (fields_after b)) ∙ placed_pad at (fields_after b 0)
 
-  pub options_end : (b : List ℕ) → options4 at (255 ∷ b) ≡ some []
+  options_end : (b : List ℕ) → options4 at (255 ∷ b) ≡ some []
   unfolding options4 fields4 fields_after located4
   options_end b = ap (placed at) (field_end b (fields_after b))
 
   module _ (c : ℕ) (low : 1 ≤ c) (high : c ≤ 254) where
-    pub options_cut : options4 at (c ∷ []) ≡ none
+    options_cut : options4 at (c ∷ []) ≡ none
     unfolding options4 fields4 fields_after
     options_cut = ap (placed at) (field_option [] (fields_after []) c low high)
 
     module _ (n : ℕ) (b : List ℕ) where
-      pub options_past : length b < n → options4 at (c ∷ n ∷ b) ≡ none
+      options_past : length b < n → options4 at (c ∷ n ∷ b) ≡ none
       unfolding options4 fields4 fields_after
       options_past h =
           ap (placed at) (field_option (n ∷ b) (fields_after (n ∷ b)) c low high ∙ ap (before (option c (take n b))) (fields_over b n (omega arith)))
 
-      pub options_more : n ≤ length b → options4 at (c ∷ n ∷ b) ≡ and_then (record { code = c; start = at + 2; bytes = take n b }) (options4 (at + 2 + n) (drop n b))
+      options_more : n ≤ length b → options4 at (c ∷ n ∷ b) ≡ and_then (record { code = c; start = at + 2; bytes = take n b }) (options4 (at + 2 + n) (drop n b))
       unfolding options4 fields4 fields_after
       options_more h =
           ap (placed at) (field_option (n ∷ b) (fields_after (n ∷ b)) c low high) ∙ placed_option at c (take n b) (fields_after b n)
@@ -105,9 +105,12 @@ module _ (m : List ℕ) (i : ℕ) (w : Wanted) (p : Passed m i w) where
   unfolding after_header4
   found_here r e = ap (by_options m) (p.so_far ∙ ap (prepended p.done) e)
 
+  pub passed_inside : WantedInside m w
+  passed_inside = rw p.kept (wanted_inside m p.done p.inside)
+
   -- no End up to the message's end
-  pub no_end : length m ≤ i → after_header4 m ≡ nothing_joined options_malformed
-  no_end h = found_here none (ap (options4 i) (drop_of_length-le m h) ∙ options_none i)
+  pub no_end : length m ≤ i → refused_request options_malformed ≡ after_header4 m
+  no_end h = sym (found_here none (ap (options4 i) (drop_of_length-le m h) ∙ options_none i))
 
   module _ (within : i < length m) where
     pub passed_pad : get_or m i 0 ≡ 0 → Passed m (i + 1) w
@@ -124,28 +127,22 @@ module _ (m : List ℕ) (i : ℕ) (w : Wanted) (p : Passed m i w) where
               ∙ ap (λ (k : ℕ). options4 (i + 1) (drop k m)) (sym (add-one i)));
         }
 
-    -- at End all options were passed
-    pub passed_end : 240 ≤ length m → get_or m i 0 ≡ 255 → Walked m w
-    unfolding options_in
-    passed_end low e =
-        let all : options4 240 (drop 240 m) ≡ some p.done =
-        p.so_far
-        ∙ ap (prepended p.done) (ap (options4 i) (drop-cons m i 0 within ∙ ap (λ (c : ℕ). c ∷ drop (suc i) m) e) ∙ options_end i (drop (suc i) m))
-        ∙ ap some (append-nil p.done) in
-        let same : p.done ≡ listed (options4 240 (drop 240 m)) = sym (ap listed all) in
-        record {
-          options = record { least = low; are = all ∙ ap some same };
-          kept = p.kept ∙ ap wanted_of same;
-          inside = subst (Every (DataIn m)) same p.inside;
-        }
+    pub passed_end : get_or m i 0 ≡ 255 → judged_by m w ≡ after_header4 m
+    passed_end e =
+        rw p.kept
+        (judged_by m p.done p.inside
+        ∙ sym
+        (found_here (some []) (ap (options4 i) (drop-cons m i 0 within ∙ ap (λ (c : ℕ). c ∷ drop (suc i) m) e) ∙ options_end i (drop (suc i) m))
+        ∙ ap (λ (ls : List Located). by_options m (some ls)) (append-nil p.done)))
 
     module _ (low : 1 ≤ get_or m i 0) (high : get_or m i 0 ≤ 254) where
       -- the message ends after the code
-      pub no_length : length m ≤ i + 1 → after_header4 m ≡ nothing_joined options_malformed
+      pub no_length : length m ≤ i + 1 → refused_request options_malformed ≡ after_header4 m
       no_length h =
-          found_here none
+          sym
+          (found_here none
           (ap (options4 i) (drop-cons m i 0 within ∙ ap (λ (l : List ℕ). get_or m i 0 ∷ l) (drop_of_length-le m {i = suc i} (omega arith)))
-          ∙ options_cut i (get_or m i 0) low high)
+          ∙ options_cut i (get_or m i 0) low high))
 
       module _ (n : ℕ) (two : i + 1 < length m) (is : n ≡ get_or m (i + 1) 0) where
         here : drop i m ≡ get_or m i 0 ∷ n ∷ drop (i + 2) m
@@ -158,9 +155,9 @@ module _ (m : List ℕ) (i : ℕ) (w : Wanted) (p : Passed m i w) where
         long : length (drop (i + 2) m) ≡ length m - (i + 2)
         long = length-drop (i + 2) m
 
-        pub past_end : length m < i + 2 + n → after_header4 m ≡ nothing_joined options_malformed
+        pub past_end : length m < i + 2 + n → refused_request options_malformed ≡ after_header4 m
         past_end h =
-            found_here none (ap (options4 i) here ∙ options_past i (get_or m i 0) low high n (drop (i + 2) m) (omega (arith, long)))
+            sym (found_here none (ap (options4 i) here ∙ options_past i (get_or m i 0) low high n (drop (i + 2) m) (omega (arith, long))))
 
         pub passed_option : i + 2 + n ≤ length m → (w' : Wanted) → w' ≡ noted w (get_or m i 0) (record { start = i + 2; len = n }) → Passed m (i + 2 + n) w'
         passed_option h w' e =

@@ -1,11 +1,10 @@
--- What the steps of reading a DHCPv4 message promise one another: what is kept of the four options that a request is judged by, and the judgement of those that
--- were joined.
-use Rattle.std.specs.Prelude.{ℕ, ◌+◌, ◌≤◌, ◌<◌, Bool, cond, ◌≡◌, List, eqb, length, take, drop}
+-- What the steps of reading a DHCPv4 message promise one another: what is kept of the four options that a request is judged by, and the judgement from that.
+use Rattle.std.specs.Prelude.{ℕ, ◌+◌, ◌≤◌, ◌<◌, Bool, true, cond, ◌||◌, ◌≡◌, List, eqb, length, take, drop}
 use Rattle.std.proofs.Math.Option.{Option, none, some}
 use Rattle.base.specs.Logic.{Every}
-use Rattle.base.specs.Refusal.{not_a_request, no_identifier}
+use Rattle.base.specs.Refusal.{option_repeated, option_overload, not_a_request, no_identifier}
 use Rattle.message.specs.Options.{Located, having}
-use Rattle.message.specs.Request.{bytes_of, refused_request, Identifier, has_name, name_part}
+use Rattle.message.specs.Request.{bytes_of, Inside, refused_request, Identifier, has_name, name_part}
 use Rattle.message.specs.Seen.{seen_of, met}
 use Rattle.message.specs.declared.Part.{Part}
 use Rattle.message.specs.declared.Request.{Request}
@@ -13,7 +12,6 @@ use Rattle.message.specs.declared.seen.Seen.{Seen}
 use Rattle.message4.specs.Message4.{is_request, identifier4, name4}
 use Rattle.message4.specs.declared.Wanted.{Wanted}
 use Rattle.message4.specs.declared.Name.{Name}
-use Rattle.message4.specs.declared.OptionData.{OptionData}
 
 -- ---- the four options
 
@@ -36,16 +34,28 @@ noted w code p =
 
 -- ---- their data in the message m
 
+-- the first of the options with a code lies within the message
+abbrev pub SeenInside : List ℕ → Seen → Type 0
+SeenInside m s = s.found ≡ true → Inside m s.part
+
+pub record WantedInside (m : List ℕ) (w : Wanted) : Type 0 where
+  pub overload : SeenInside m w.overload
+  pub message_type : SeenInside m w.message_type
+  pub client_id : SeenInside m w.client_id
+  pub client_fqdn : SeenInside m w.client_fqdn
+
 -- an option's data are the bytes of m where it says that they are; and as their length is a byte of m, it is 255 at most if those are bytes
 pub record DataIn (m : List ℕ) (l : Located) : Type 0 where
   pub fits : l.start + length l.bytes ≤ length m
   pub «data» : l.bytes ≡ take (length l.bytes) (drop l.start m)
   pub short : Every (λ b. b < 256) m → length l.bytes ≤ 255
 
--- ---- their joined data in the work area w
+-- the option whose data are a part of m
+abbrev pub data_at : List ℕ → ℕ → Part → Located
+data_at m code p = record { code = code; start = p.start; bytes = bytes_of m p }
 
-abbrev pub data_of : List ℕ → OptionData → Option (List ℕ)
-data_of w o = cond o.found (some (bytes_of w o.part)) none
+abbrev pub data_of : List ℕ → ℕ → Seen → Option Located
+data_of m code s = cond s.found (some (data_at m code s.part)) none
 
 -- ---- the judgement
 
@@ -60,9 +70,10 @@ abbrev pub identified_as : Option Identifier → Name → Request
 identified_as none name = refused_request no_identifier
 identified_as (some i) name = accepted_as i name
 
--- by the joined data of options 53, 61 and 81 in the work area w: 7 and 8, else the request
-unfoldable pub judged_by : List ℕ → List ℕ → OptionData → OptionData → OptionData → Request
-judged_by m w message_type client_id client_fqdn =
-    cond (is_request (data_of w message_type))
-    (identified_as (identifier4 m client_id.part.start (data_of w client_id)) (as_name (name4 client_fqdn.part.start (data_of w client_fqdn))))
-    (refused_request not_a_request)
+unfoldable pub judged_by : List ℕ → Wanted → Request
+judged_by m w =
+    cond (w.overload.again || w.message_type.again || w.client_id.again || w.client_fqdn.again) (refused_request option_repeated)
+    (cond w.overload.found (refused_request option_overload)
+    (cond (is_request (data_of m 53 w.message_type))
+    (identified_as (identifier4 m (data_of m 61 w.client_id)) (as_name (name4 (data_of m 81 w.client_fqdn))))
+    (refused_request not_a_request)))

@@ -1,14 +1,13 @@
 -- What a DHCPv4 message says, found by functions, for the promise of `read4`. What a message says is defined in Message4.antt, which cites none of them:
 -- proofs/Theorems.antt proves that they find just that, and that every message is answered with something.
-use Rattle.std.specs.Prelude.{ℕ, zero, suc, Bool, cond, ◌&&◌, ◌≡◌, List, [], ◌∷◌, leb, eqb, length, get_or, take, drop}
+use Rattle.std.specs.Prelude.{ℕ, zero, suc, Bool, cond, ◌&&◌, List, [], ◌∷◌, leb, eqb, length, get_or, take, drop}
 use Rattle.std.proofs.Math.Option.{Option, none, some}
-use Rattle.base.specs.Bytes.{overlay}
-use Rattle.base.specs.Refusal.{message_length, not_bootrequest, hardware_address_length, options_malformed, option_repeated, option_overload}
-use Rattle.message.specs.Options.{Located, is_there, is_repeated}
+use Rattle.base.specs.Refusal.{message_length, not_bootrequest, hardware_address_length, options_malformed}
+use Rattle.message.specs.Options.{Located}
 use Rattle.message.specs.Request.{refused_request}
 use Rattle.message.specs.declared.Request.{Request}
 use Rattle.message4.specs.Options4.{Field4, pad, option, located4}
-use Rattle.message4.specs.Message4.{hlen, joined4, judge4}
+use Rattle.message4.specs.Message4.{hlen, judge4}
 
 -- ---- the options field
 
@@ -44,51 +43,23 @@ placed at (some fs) = some (located4 at fs)
 unfoldable pub options4 : ℕ → List ℕ → Option (List Located)
 options4 at b = placed at (fields4 b)
 
--- the options of a message; none where it has no options up to End
-abbrev pub listed : Option (List Located) → List Located
-listed none = []
-listed (some ls) = ls
-
-unfoldable pub options_in : List ℕ → List Located
-options_in m = listed (options4 240 (drop 240 m))
-
 -- ---- the whole message
-
--- what comes of a message: the joined options, and the request
-pub record Reading : Type 0 where
-  pub joined : List ℕ
-  pub request : Request
-
--- a refusal before anything is joined
-abbrev pub nothing_joined : ℕ → Reading
-nothing_joined n = record { joined = []; request = refused_request n }
 
 unfoldable pub is_bootrequest : List ℕ → Bool
 is_bootrequest m = eqb (get_or m 0 0) 1 && eqb (get_or m 236 0) 99 && eqb (get_or m 237 0) 130 && eqb (get_or m 238 0) 83 && eqb (get_or m 239 0) 99
 
--- 5 and 6, then what the options say
-unfoldable pub with_options : List ℕ → List Located → Reading
-with_options m ls =
-    cond (is_repeated 52 ls) (nothing_joined option_repeated)
-    (cond (is_there 52 ls) (nothing_joined option_overload) (record { joined = joined4 ls; request = judge4 m ls }))
-
-abbrev pub by_options : List ℕ → Option (List Located) → Reading
-by_options m none = nothing_joined options_malformed
-by_options m (some ls) = with_options m ls
+abbrev pub by_options : List ℕ → Option (List Located) → Request
+by_options m none = refused_request options_malformed
+by_options m (some ls) = judge4 m ls
 
 -- the answer, of a message whose header is right
-unfoldable pub after_header4 : List ℕ → Reading
+unfoldable pub after_header4 : List ℕ → Request
 after_header4 m = by_options m (options4 240 (drop 240 m))
 
-unfoldable pub reading4 : List ℕ → Reading
-reading4 m =
+unfoldable pub request4 : List ℕ → Request
+request4 m =
     cond (leb 240 (length m) && leb (length m) 2048)
     (cond (is_bootrequest m)
-    (cond (leb (hlen m) 16) (after_header4 m) (nothing_joined hardware_address_length))
-    (nothing_joined not_bootrequest))
-    (nothing_joined message_length)
-
--- a function that is lent a work area answers with a reading's request, and leaves its joined options at the area's beginning, the rest as it was
-pub record Answers (reading : Reading) (work : List ℕ) (r : Request) (left : List ℕ) : Type 0 where
-  pub answers : r ≡ reading.request
-  pub leaves : left ≡ overlay work 0 reading.joined
+    (cond (leb (hlen m) 16) (after_header4 m) (refused_request hardware_address_length))
+    (refused_request not_bootrequest))
+    (refused_request message_length)

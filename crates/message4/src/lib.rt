@@ -1,18 +1,17 @@
-// DHCPv4 requests: the header (RFC 2131, 2), the options up to End (RFC 2132), and what they come to. Options 53, 61 and 81 may come in parts (RFC 3396): their
-// data are joined in a work area that the caller lends. One walk finds the options; another one is made only for an option that does come in parts.
+// DHCPv4 requests: the header (RFC 2131, 2), the options up to End (RFC 2132), and what they come to. Each option's code and length are looked at once.
+#![tactic(auto)]
+
 ghost use Rattle.std.specs.Prelude.{◌≡◌, [], ◌≤◌, length, get_or};
 ghost use Rattle.std.proofs.Math.Option.{none};
 ghost use Rattle.message.specs.Request.{bytes_of, Inside, no_part};
 ghost use Rattle.message4.specs.Message4.{is_request, has_duid, identifier4, has_wire_name, name4};
 ghost use Rattle.message4.specs.Judging4 as spec;
 ghost use Rattle.message4.specs.Reading4 as reading;
-ghost use Rattle.message4.specs.Joining4 as joining;
 
 use base::refusal::{
     HARDWARE_ADDRESS_LENGTH, MESSAGE_LENGTH, NO_IDENTIFIER, NOT_A_REQUEST, NOT_BOOTREQUEST,
     OPTION_OVERLOAD, OPTION_REPEATED, OPTIONS_MALFORMED,
 };
-use base::slice::put;
 use message::seen::Seen;
 use message::{Part, Request, refused};
 
@@ -81,14 +80,7 @@ struct Wanted {
     client_fqdn: Seen,
 }
 
-// The joined data of an option, if it is there: a part of the work area.
-#[derive(Drop)]
-pub struct OptionData {
-    pub found: bool,
-    pub part: Part,
-}
-
-// The name that the client asks for, a part of the work area; zeros where it asks for none.
+// The name that the client asks for; zeros where it asks for none.
 #[derive(Drop)]
 pub struct Name {
     pub given: bool,
@@ -161,18 +153,18 @@ fn accepted(id_type: u16, id_head: Part, id: Part, name: Name) -> Request
 }
 
 // The first byte of an option's data, which are not empty.
-fn first_byte(work: &[u8], part: Part) -> u8
-    requires { (Inside work.now part) × (1 ≤ part.len) }
-    ensures { result ≡ get_or (bytes_of work.now part) 0 0 }
+fn first_byte(message: &[u8], part: Part) -> u8
+    requires { (Inside message.now part) × (1 ≤ part.len) }
+    ensures { result ≡ get_or (bytes_of message.now part) 0 0 }
 {
     let start = part.start;
-    work[start]
+    message[start]
 }
 
 // Is option 53 the single byte 3?
-fn is_request(work: &[u8], message_type: OptionData) -> bool
-    requires { Inside work.now message_type.part }
-    ensures { result ≡ is_request (spec.data_of work.now message_type) }
+fn is_request(message: &[u8], message_type: Seen) -> bool
+    requires { spec.SeenInside message.now message_type }
+    ensures { result ≡ is_request (spec.data_of message.now 53 message_type) }
 {
     if !message_type.found {
         return false;
@@ -181,13 +173,13 @@ fn is_request(work: &[u8], message_type: OptionData) -> bool
     if part.len != 1 {
         return false;
     }
-    first_byte(work, part) == DHCPREQUEST
+    first_byte(message, part) == DHCPREQUEST
 }
 
 // Has option 61, whose data are this part, a DUID?
-fn has_duid(work: &[u8], part: Part) -> bool
-    requires { Inside work.now part }
-    ensures { result ≡ has_duid (bytes_of work.now part) }
+fn has_duid(message: &[u8], part: Part) -> bool
+    requires { Inside message.now part }
+    ensures { result ≡ has_duid (spec.data_at message.now 61 part) }
 {
     if part.len < SHORTEST_WITH_DUID {
         return false;
@@ -195,30 +187,30 @@ fn has_duid(work: &[u8], part: Part) -> bool
     if LONGEST_WITH_DUID < part.len {
         return false;
     }
-    first_byte(work, part) == NODE_SPECIFIC
+    first_byte(message, part) == NODE_SPECIFIC
 }
 
 // Has option 81, whose data are this part, a name in wire form?
-fn has_wire_name(work: &[u8], part: Part) -> bool
-    requires { Inside work.now part }
-    ensures { result ≡ has_wire_name (bytes_of work.now part) }
+fn has_wire_name(message: &[u8], part: Part) -> bool
+    requires { Inside message.now part }
+    ensures { result ≡ has_wire_name (spec.data_at message.now 81 part) }
 {
     if part.len < NAME_START {
         return false;
     }
-    first_byte(work, part) / FLAG_E % 2 == 1
+    first_byte(message, part) / FLAG_E % 2 == 1
 }
 
 // The name that option 81 asks for.
-fn name_in(work: &[u8], client_fqdn: OptionData) -> Name
-    requires { Inside work.now client_fqdn.part }
-    ensures { result ≡ spec.as_name (name4 client_fqdn.part.start (spec.data_of work.now client_fqdn)) }
+fn name_in(message: &[u8], client_fqdn: Seen) -> Name
+    requires { spec.SeenInside message.now client_fqdn }
+    ensures { result ≡ spec.as_name (name4 (spec.data_of message.now 81 client_fqdn)) }
 {
     if !client_fqdn.found {
         return no_name();
     }
     let part = client_fqdn.part;
-    if !has_wire_name(work, part) {
+    if !has_wire_name(message, part) {
         return no_name();
     }
     Name {
@@ -231,9 +223,9 @@ fn name_in(work: &[u8], client_fqdn: OptionData) -> Name
 }
 
 // The request of the client that option 61, or else the hardware address, identifies.
-fn identify(message: &[u8], work: &[u8], client_id: OptionData, name: Name) -> Request
-    requires { (240 ≤ length message.now) × Inside work.now client_id.part }
-    ensures { result ≡ spec.identified_as (identifier4 message.now client_id.part.start (spec.data_of work.now client_id)) name }
+fn identify(message: &[u8], client_id: Seen, name: Name) -> Request
+    requires { (240 ≤ length message.now) × spec.SeenInside message.now client_id }
+    ensures { result ≡ spec.identified_as (identifier4 message.now (spec.data_of message.now 61 client_id)) name }
 {
     if !client_id.found {
         let hlen = message[HLEN] as usize;
@@ -254,7 +246,7 @@ fn identify(message: &[u8], work: &[u8], client_id: OptionData, name: Name) -> R
         );
     }
     let part = client_id.part;
-    if has_duid(work, part) {
+    if has_duid(message, part) {
         return accepted(
             DUID,
             no_part(),
@@ -271,122 +263,39 @@ fn identify(message: &[u8], work: &[u8], client_id: OptionData, name: Name) -> R
     accepted(CLIENT_IDENTIFIER, no_part(), part, name)
 }
 
-// What the joined options come to.
-fn judge_joined(
-    message: &[u8],
-    work: &[u8],
-    message_type: OptionData,
-    client_id: OptionData,
-    client_fqdn: OptionData,
-) -> Request
-    requires { (240 ≤ length message.now) × Inside work.now message_type.part × Inside work.now client_id.part × Inside work.now client_fqdn.part }
-    ensures { result ≡ spec.judged_by message.now work.now message_type client_id client_fqdn }
-{
-    if !is_request(work, message_type) {
-        return refused(NOT_A_REQUEST);
-    }
-    let name = name_in(work, client_fqdn);
-    identify(message, work, client_id, name)
-}
-
-// The data of all options with a code, one after the other, into the work area from index `at` on; answers where they end.
-fn join(message: &[u8], code: u8, work: &mut [u8], at: usize) -> usize
-    requires { joining.Joinable message.now code work.old at }
-    ensures { joining.Joined message.now code work.old at work.new result }
-{
-    let mut to = at;
-    let mut i = OPTIONS;
-    while message[i] != END {
-        let c = message[i];
-        if c == PAD {
-            i += 1;
-        } else {
-            let len = message[i + 1] as usize;
-            let start = i + 2;
-            let end = start + len;
-            if c == code {
-                put(work, to, &message[start..end]);
-                to += len;
-                i = end;
-            } else {
-                i = end;
-            }
-        }
-    }
-    to
-}
-
-// The same of what was seen of these options: one that came whole is copied from where it stands, without a walk.
-fn put_option(message: &[u8], code: u8, seen: Seen, work: &mut [u8], at: usize) -> usize
-    requires { joining.Joinable message.now code work.old at × joining.SeenIn message.now code seen }
-    ensures { joining.Joined message.now code work.old at work.new result }
-{
-    if seen.again {
-        return join(message, code, work, at);
-    }
-    let part = seen.part;
-    let start = part.start;
-    let end = start + part.len;
-    put(work, at, &message[start..end]);
-    at + part.len
-}
-
-// What the options come to: 5 and 6; else those that are joined are judged.
-fn judge(message: &[u8], wanted: Wanted, work: &mut [u8]) -> Request
-    requires { joining.Walked message.now wanted × (length message.now ≤ 2048) × (2048 ≤ length work.old) }
-    ensures { reading.Answers (reading.after_header4 message.now) work.old result work.new }
+// What the options come to.
+fn judge(message: &[u8], wanted: Wanted) -> Request
+    requires { (240 ≤ length message.now) × spec.WantedInside message.now wanted }
+    ensures { result ≡ spec.judged_by message.now wanted }
 {
     let overload = wanted.overload;
     let message_type = wanted.message_type;
     let client_id = wanted.client_id;
     let client_fqdn = wanted.client_fqdn;
-    if overload.again {
+    if overload.again | message_type.again | client_id.again | client_fqdn.again {
         return refused(OPTION_REPEATED);
     }
     if overload.found {
         return refused(OPTION_OVERLOAD);
     }
-    let id_start = put_option(message, MESSAGE_TYPE, message_type, work, 0);
-    let name_start = put_option(message, CLIENT_ID, client_id, work, id_start);
-    let end = put_option(message, CLIENT_FQDN, client_fqdn, work, name_start);
-    judge_joined(
-        message,
-        &work[..],
-        OptionData {
-            found: message_type.found,
-            part: Part {
-                start: 0,
-                len: id_start,
-            },
-        },
-        OptionData {
-            found: client_id.found,
-            part: Part {
-                start: id_start,
-                len: name_start - id_start,
-            },
-        },
-        OptionData {
-            found: client_fqdn.found,
-            part: Part {
-                start: name_start,
-                len: end - name_start,
-            },
-        },
-    )
+    if !is_request(message, message_type) {
+        return refused(NOT_A_REQUEST);
+    }
+    let name = name_in(message, client_fqdn);
+    identify(message, client_id, name)
 }
 
 // The options up to End, and what they come to.
-fn read_options(message: &[u8], work: &mut [u8]) -> Request
-    requires { (240 ≤ length message.now) × (length message.now ≤ 2048) × (2048 ≤ length work.old) }
-    ensures { reading.Answers (reading.after_header4 message.now) work.old result work.new }
+fn read_options(message: &[u8]) -> Request
+    requires { 240 ≤ length message.now }
+    ensures { result ≡ reading.after_header4 message.now }
 {
     let mut wanted = Wanted::none();
     let mut i = OPTIONS;
     while i < message.len() {
         let code = message[i];
         if code == END {
-            return judge(message, wanted, work);
+            return judge(message, wanted);
         }
         if code == PAD {
             i += 1;
@@ -423,11 +332,9 @@ fn is_bootrequest(message: &[u8]) -> bool
         & (message[COOKIE + 3] == 99)
 }
 
-// What a DHCPv4 message says: the client's identifier and the name that it asks for, or the refusal. Behind refusal 6 the work area begins with the joined options
-// 53, 61 and 81; up to it, and in all its other bytes, it stays as it was.
-pub fn read4(message: &[u8], work: &mut [u8]) -> Request
-    requires { 2048 ≤ length work.old }
-    ensures { reading.Answers (reading.reading4 message.now) work.old result work.new }
+// What a DHCPv4 message says: the client's identifier and the name that it asks for, or the refusal.
+pub fn read4(message: &[u8]) -> Request
+    ensures { result ≡ reading.request4 message.now }
 {
     if message.len() < OPTIONS {
         return refused(MESSAGE_LENGTH);
@@ -441,5 +348,5 @@ pub fn read4(message: &[u8], work: &mut [u8]) -> Request
     if LONGEST_ADDRESS < message[HLEN] {
         return refused(HARDWARE_ADDRESS_LENGTH);
     }
-    read_options(message, work)
+    read_options(message)
 }

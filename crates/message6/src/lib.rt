@@ -1,4 +1,6 @@
 // DHCPv6 requests (RFC 8415): a message holds options, and a relay's Relay Message option holds a message.
+#![tactic(auto)]
+
 ghost use Rattle.std.specs.Prelude.{◌≡◌, ◌+◌, ◌≤◌, ◌<◌, ◌^◌, length};
 ghost use Rattle.message6.specs.Message6 as told;
 ghost use Rattle.message6.specs.Reading6 as reading;

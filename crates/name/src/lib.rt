@@ -1,5 +1,7 @@
 // Domain names in wire form (RFC 1035, section 3.1). A proper name is one or more labels of letters, digits, hyphens and
 // underscores, at most 255 bytes in wire form.
+#![tactic(auto)]
+
 pub mod byte;
 pub mod wire;
 

@@ -1,4 +1,6 @@
 // Octets compared, set to zero and moved, many at a turn.
+#![tactic(auto)]
+
 ghost use Rattle.std.specs.Prelude.{◌≡◌, ◌+◌, ◌≤◌, length, take, drop, replicate};
 ghost use Rattle.base.specs.Bytes.{overlay, closed_up, eq_bytes};
 ghost use Rattle.base.specs.Logic.{Decides};

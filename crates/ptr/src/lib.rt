@@ -1,4 +1,6 @@
 // The PTR name of an address.
+#![tactic(auto)]
+
 ghost use Rattle.std.specs.Prelude.{◌≡◌, ◌+◌, ◌/◌, ◌%◌, ◌≤◌, [], ◌∷◌, length};
 ghost use Rattle.base.specs.Bytes.{overlay};
 ghost use Rattle.slots.specs.Entry.{address_size};

@@ -1,4 +1,6 @@
 // A reader that holds on to a listing and gives one record at a time. The work is `listing::step_at`, over a plain slice; these functions are thin.
+#![tactic(auto)]
+
 ghost use Rattle.std.specs.Prelude.{◌≡◌};
 ghost use Rattle.listing.specs.Giving as spec;
 

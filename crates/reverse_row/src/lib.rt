@@ -1,5 +1,7 @@
 // The reverse side: a row of slots, of which the used ones come first. A slot has the family (1 byte), the address (16), the name's wire length (1) and the name
 // (255). Is it sound, where does an address stand, and what do a name that is put behind it and one that is taken out leave?
+#![tactic(auto)]
+
 ghost use Rattle.std.specs.Prelude.{◌≡◌, ℕ, ◌≤◌, ◌<◌, length};
 ghost use Rattle.base.specs.Logic.{Decides};
 ghost use Rattle.name.specs.Name.{Proper, canonical};

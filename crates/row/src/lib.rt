@@ -1,5 +1,7 @@
 // Reading a whole listing into a row of records that the caller lends. Every decision is made by functions over plain slices and values; `read` itself only
 // stores. The first of them has checked the listing to its end and compared the row's length, so that a refused call stores nothing.
+#![tactic(auto)]
+
 ghost use Rattle.std.specs.Prelude.{◌≡◌};
 ghost use Rattle.row.specs.Row as spec;
 
@@ -9,7 +11,7 @@ use entry::Record;
 use listing::{check, step_at};
 
 // How far a row is filled.
-#[derive(Drop)]
+#[derive(Clone, Copy)]
 struct Filling {
     // what the call answers
     answer: Answer,

@@ -1,4 +1,6 @@
 // SHA-256 of one block of 64 bytes: the message schedule and the 64 rounds, FIPS 180-4 section 6.2.2.
+#![tactic(auto)]
+
 mod constants;
 mod word;
 

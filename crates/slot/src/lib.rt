@@ -1,4 +1,6 @@
 // One slot of the table: the name's wire length, the name in 255 bytes, flags, A, AAAA, DHCID. What is absent is zeros. Is it well formed, and what does it hold?
+#![tactic(auto)]
+
 ghost use Rattle.std.specs.Prelude.{◌≡◌, ◌≤◌, length, take, drop};
 ghost use Rattle.base.specs.Bytes.{eq_bytes};
 ghost use Rattle.base.specs.Family.{KnownFamily};

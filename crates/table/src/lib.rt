@@ -1,4 +1,6 @@
 // The table of names: add, remove and clear, find and count. A call decides first and writes last, so a refused one has written nothing.
+#![tactic(auto)]
+
 pub mod arguments;
 pub mod slot_for;
 pub mod step;

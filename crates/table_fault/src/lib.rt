@@ -1,6 +1,8 @@
 // Is a listing right, and do its records make a table? No record may stand twice, by owner and type (refusal 35), and there may be no more names than the table has slots
 // (32). One sweep reads every entry and keeps the first 64 names that it meets, by the offset of their first entry, where the owner stands in text, and which types each
 // has: 576 bytes, and no copy of a name. What it could not keep is swept again from the first such record on, so that n names take n / 64 sweeps.
+#![tactic(auto)]
+
 ghost use Rattle.std.specs.Prelude.{◌≡◌, List, ℕ, ◌+◌, ◌*◌, ◌%◌, ◌^◌, ◌≤◌, ◌<◌, length, drop, set};
 ghost use Rattle.base.specs.Logic.{Decides};
 ghost use Rattle.grammar.specs.Listing.{ResourceRecord};

@@ -1,5 +1,7 @@
 // Loading a listing into a table. A load decides first and writes last: all of the listing is read, and its records are looked at together, before the first byte of the
 // table is written.
+#![tactic(auto)]
+
 ghost use Rattle.std.specs.Prelude.{cond, ◌≡◌, List, ◌+◌, ◌≤◌, ◌<◌, ltb, length, replicate};
 ghost use Rattle.grammar.specs.Listing.{ResourceRecord};
 ghost use Rattle.listing.specs.Giving.{end, Gives};

@@ -1,4 +1,6 @@
 // A table of names written as a listing: one pass over the slots that measures, and one that writes.
+#![tactic(auto)]
+
 ghost use Rattle.std.specs.Prelude.{◌≡◌, length};
 ghost use Rattle.base.specs.Bytes.{overlay};
 ghost use Rattle.entry.specs.Held.{type_number};

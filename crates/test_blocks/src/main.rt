@@ -1,6 +1,8 @@
 // The bytes of a block of each kind, and the refusals of the call that writes one, against their neighbours in the order. What must be printed, in the file `stdout`, was
 // written before this program first ran, from document 02 (K5; docs/RULES.md, 11.1 and 11.3) and include/vichrelka.h ("The book of names"), with SHA-256 as Python's hashlib
 // has it.
+#![tactic(auto)]
+
 use base::Answer;
 use book_block::{KIND, write};
 use harness::{Line, first, is_all, put_fitting, rest};

@@ -19,6 +19,8 @@
 // is compared with the book, and replayed. Eight bytes of SHA-256 stand for the bytes of a table or a book. What must be printed, in the file `stdout`,
 // was written before this program first ran, from document 02 (K5, and K1 for what a remove leaves) and include/vichrelka.h ("The book of names"), with SHA-256
 // as Python's hashlib has it.
+#![tactic(auto)]
+
 use base::Answer;
 use block::seal;
 use book_block::KIND;

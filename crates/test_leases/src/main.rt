@@ -18,6 +18,8 @@
 // name; of a long side those from the seventh to the last but one are a dot each. What must be printed, in the file `stdout`, was written before this program first
 // ran, from document 02 (K7, and K1 for what a remove leaves), document 01 ("The table"; docs/RULES.md, 7), RFC 1035 (3.5) and RFC 3596 (2.5), and for the bytes of
 // the reverse side from include/vichrelka.h ("The reverse side").
+#![tactic(auto)]
+
 use base::Answer;
 use check::same;
 use harness::{Line, find, first, is_all, put_fitting, rest};

@@ -4,6 +4,8 @@
 // which goes the same way, and the refusals of a write. What must be printed, in the file `stdout`, was written before this program first ran, from document 01 ("The
 // table": "Loading", "Writing" and its example of 140 bytes; "Refusal numbers"; docs/RULES.md, 7.7, 7.8 and 2.2), and the DHCID in hexadecimal from
 // RFC 4701, 3.6.3.
+#![tactic(auto)]
+
 ghost use Rattle.std.specs.Prelude.{◌≡◌, length};
 
 use base::Answer;

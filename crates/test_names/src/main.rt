@@ -2,6 +2,8 @@
 // RFC 1035 (2.3.1, 4.1.4), RFC 4034 (6.1), RFC 4343 (2, 2.2, 4.1) and document 01 ("Both sides of each edge"; docs/RULES.md, 9), with document 01's
 // rules (docs/RULES.md, 3) for what is no name: an escape, a star, a missing dot, an empty label. A text is followed by its canonical wire form, wire
 // bytes by their text.
+#![tactic(auto)]
+
 ghost use Rattle.std.specs.Prelude.{◌≤◌};
 
 use harness::{Line, find, first};

@@ -4,6 +4,8 @@
 // docs/RULES.md, 6, 2 and 7.8) and RFC 4701's 3.6.3 in hexadecimal. Each answer is asked for where the one before says to go on. A record is printed
 // whole: the owner's bytes, the type, the 35 bytes of data, and whether the bytes after the owner are zeros; with the end and with a refusal comes a
 // record of zeros, or the line would say so.
+#![tactic(auto)]
+
 use base::slice::put;
 use entry::Record;
 use harness::{Line, first, is_all, rest};

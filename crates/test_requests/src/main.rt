@@ -4,6 +4,8 @@
 // 4 and 5.1) before this program first ran: both sides of each edge, and for each two neighbours in a family's order of refusals a message with both
 // faults. A line with a setting and a site's name too is answered with the chosen name, the number of bytes written or the refusal, and the output's
 // bytes. A line without a message is the heading of a section; RFC 4701's three examples (3.6.1 to 3.6.3, in hexadecimal) have one of their own.
+#![tactic(auto)]
+
 ghost use Rattle.std.specs.Prelude.{◌<◌, length};
 
 use base::Answer;
@@ -49,7 +51,7 @@ fn with_request(line: Line, request: Request) -> Line {
 }
 
 // A message that is being made: how many bytes it has, and what the next character goes on.
-#[derive(Drop)]
+#[derive(Clone, Copy)]
 struct Draft {
     len: usize,
     last: u8,

@@ -2,6 +2,8 @@
 // ("The listing's grammar", "Refusal numbers", the example of "The table"; docs/RULES.md, 6, 2 and 7.8) and RFC 4701's 3.6.3 in hexadecimal. Each
 // place is printed whole: the owner's bytes, the type, the 35 bytes of data, and whether the bytes after the owner are zeros; a place that holds what
 // it held before is `as it was`.
+#![tactic(auto)]
+
 use base::Answer;
 use check::same;
 use entry::Record;

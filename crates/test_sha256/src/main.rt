@@ -2,6 +2,8 @@
 // the first four from NIST's examples for FIPS 180-4 (the empty message from NIST's test vectors), the others by GNU coreutils 9.1's
 // sha256sum, with which Python 3.11's hashlib (OpenSSL 3.0) agrees. The others are the bytes 0, 1, 2 and so on, as many as the line says:
 // lengths on both sides of where the padding takes another block.
+#![tactic(auto)]
+
 ghost use Rattle.std.specs.Prelude.{◌≤◌};
 
 use harness::{Line, first};

@@ -4,6 +4,8 @@
 // right. Its French translation does not: example 1 has I for l before OjxfN, which spells another DHCID (a line here), example 2 has I for l in
 // UDlW, and example 3 a letter too many in VytcKD. The RFC's generic forms are printed in words of 57 and 13 digits, which RFC 3597 does not allow (a
 // line here).
+#![tactic(auto)]
+
 use address::{a_length, put_a, put_aaaa, read_a, read_aaaa};
 use dhcid_text::{DhcidWords, ReadDhcid, put_base64};
 use harness::{Line, find, first};

@@ -6,6 +6,8 @@
 // leaves from document 02, K1 (docs/RULES.md, 7.4), before the code had that rule. "12 before 40" has both faults, and all the later ones of the arguments too.
 // After an accepted call come the used slots: the name, the flags (1 for an A, 2 for an AAAA, 4 for a DHCID), A, AAAA and the first bytes of the DHCID, where -
 // is zeros alone; of a long table the slots from the fourth to the 62nd are a dot each. After a refused one all bytes are compared with those before it.
+#![tactic(auto)]
+
 ghost use Rattle.std.specs.Prelude.{◌≡◌, length};
 
 use base::Answer;

@@ -12,6 +12,8 @@
 // program first ran: the messages from RFC 2136 (2.2 to 2.5), RFC 1035 (3.1, 3.2, 4.1.3), RFC 3596 (2.1, 2.2) and RFC 4701 (3, 3.6.3), the rest from document 02 (K8)
 // and include/vichrelka.h ("Messages for a name server"). The first four messages are by hand; those of an AAAA and in upper case were made of them by replacing text.
 // Since the first run a heading has changed, and the form in which a value or a refusal is told.
+#![tactic(auto)]
+
 use base::Answer;
 use harness::{Line, find, first, is_all, put_fitting, rest};
 use libc::{STDIN_FILENO, STDOUT_FILENO};

@@ -8,7 +8,7 @@ use crate::digit::digit_value;
 use base::slice::put;
 
 // How the numbers of a word are written.
-#[derive(Drop)]
+#[derive(Clone, Copy)]
 pub struct Form {
     pub base: u32,
     pub separator: u8,
@@ -21,7 +21,7 @@ pub struct Form {
 }
 
 // Up to eight numbers of 16 bits, zeros after them.
-#[derive(Drop)]
+#[derive(Clone, Copy)]
 pub struct Numbers {
     pub found: bool,
     pub values: [u16; 8],

@@ -1,6 +1,8 @@
 // The words of a listing's entry, one at a time, and how the entry ends. A loop passes one piece at each turn, and the runs of a word and of a
 // comment are loops of their own: so each byte is looked at twice at most for its own piece. Since a word's run is taken in chunks of 32 bytes, it is
 // looked at once more for each word that ends in the 31 bytes before it, which are sixteen at most.
+#![tactic(auto)]
+
 ghost use Rattle.std.specs.Prelude.{◌≡◌, ◌+◌, ◌≤◌, ◌<◌, false, cond, ltb, length, get_or};
 ghost use Rattle.grammar.specs.Listing.{kind_of, is_word_byte, is_comment_byte};
 ghost use Rattle.words.specs.NextIs.{kind_meant, PassTo, RunTo, NextIs};

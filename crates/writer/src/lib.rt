@@ -1,4 +1,6 @@
 // Writing one record as a line of a listing: owner, blank, type, blank, data, byte 10.
+#![tactic(auto)]
+
 ghost use Rattle.std.specs.Prelude.{◌≡◌, ◌+◌, ◌≤◌, length};
 ghost use Rattle.base.specs.declared.Answer.TheVariants.{Refused};
 ghost use Rattle.base.specs.Bytes.{overlay};

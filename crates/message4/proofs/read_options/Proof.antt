@@ -3,7 +3,7 @@ use mathlib.Core.Path.{refl, ◌∙◌}
 use native.Mathlib.Omega.{arith}
 use lib.ListN.{length}
 use borrow.Author.Rules.{rules}
-use Rattle.message4.proofs.WalkLaws4.{Passed, passed_none, passed-inside, no_end, passed_pad, passed_end, no_length, past_end, passed_option}
+use Rattle.message4.proofs.WalkLaws4.{Passed, passed_none, passed_inside, no_end, passed_pad, passed_end, no_length, past_end, passed_option}
 use Rattle.message4.proofs.read_options.Statement.{statement}
 use Rattle.message4.proofs.read_options.Tie as tie
 
@@ -26,7 +26,7 @@ judge-requires : tie.Need-judge-requires invariant-loop decreases-loop
 judge-requires c κs =
     let l = c.before.before.before in
     let m = l.before.before.before.args.message.now in
-    (l.before.before.before.requires, passed-inside m l.loop.i l.loop.wanted l.loop.invariant)
+    (l.before.before.before.requires, passed_inside m l.loop.i l.loop.wanted l.loop.invariant)
 
 returns : tie.Need-returns invariant-loop decreases-loop
 returns c =
