@@ -1,0 +1,46 @@
+use mathlib.Core.Path.{◌≡◌, refl, ap}
+use mathlib.Core.Logic.{inl, inr}
+use native.Mathlib.Omega.{arith}
+use lib.ListN.{length, length-take}
+use lib.Seq.{length-take-le}
+use borrow.Author.Rules.{rules}
+use borrow.Author.Tests.{not-true, not-false}
+use Rattle.name.specs.Name.{Proper}
+use Rattle.slots.specs.Form.{Sound}
+use Rattle.slots.specs.Sizes.{most_names}
+use Rattle.book.specs.Calls.{BlockWritten}
+use Rattle.base.proofs.Bytes.{written_front}
+use Rattle.book_block.proofs.write.Goals as goal
+
+pub returns-then-not-is_sound : goal.returns-then-not-is_sound
+returns-then-not-is_sound c =
+    BlockWritten.faulty (inl (c.is_sound.ensures.if_false (not-true c.is_sound.result c.if-not-is_sound.true), refl)) c.refused.ensures refl
+
+pub returns-then-not-is_proper : goal.returns-then-not-is_proper
+returns-then-not-is_proper c =
+    let s = c.is_sound.ensures.if_true (not-false c.is_sound.result c.if-not-is_sound.false) in
+    BlockWritten.faulty (inr (s, inl (c.is_proper.ensures.if_false (not-true c.is_proper.result c.if-not-is_proper.true), refl))) c.refused-then-not-is_proper.ensures refl
+
+-- behind the first two tests: the table is sound, and the name is proper
+known : (f : goal.Else-not-is_proper) → let a = f.args in Sound most_names a.table.now × Proper a.name.now
+known f =
+    (f.is_sound.ensures.if_true (not-false f.is_sound.result f.if-not-is_sound.false), f.is_proper.ensures.if_true (not-false f.is_proper.result f.if-not-is_proper.false))
+
+pub returns-then-out-lt-SIZE : goal.returns-then-out-lt-SIZE
+returns-then-out-lt-SIZE c =
+    let k = known c.before.before in
+    BlockWritten.faulty (inr (k.0, inr (k.1, inl (λ long. omega arith, refl)))) c.refused-then-out-lt-SIZE.ensures refl
+
+pub slice_bounds-put_name-end-2 : goal.slice_bounds-put_name-end-2
+slice_bounds-put_name-end-2 c = simp length-take (omega arith)
+
+pub put_name-requires : goal.put_name-requires
+put_name-requires c = let k = known c.before.before in (simp length-take (omega arith), k.0, k.1)
+
+pub returns : goal.returns
+returns c =
+    let k = known c.before.before.before.before.before in
+    let out = c.args.out.now in
+    let size : length c.put_name.new.block ≡ 512 = omega (arith, length-take-le 512 out (omega arith)) in
+    let block = c.put_name.ensures k.0.table k.0.slots in
+    BlockWritten.written (k.0, (k.1, (omega arith, tt))) k.0 refl (written_front 512 out _ _ (omega (arith, size, ap length block)) block)

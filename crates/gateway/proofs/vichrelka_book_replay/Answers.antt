@@ -1,0 +1,9 @@
+use Rattle.base.specs.Answer.{Tells}
+use borrow.Author.Rules.{rules}
+use Rattle.gateway.proofs.vichrelka_book_replay.Goals as goal
+
+pub returns : goal.returns
+unfolding Tells
+returns c =
+    let step = c.replay in
+    (step.result, c.for_c.ensures.told, c.for_c.ensures.small, step.ensures)

@@ -1,0 +1,9 @@
+use Rattle.base.specs.Answer.{Tells}
+use borrow.Author.Rules.{rules}
+use Rattle.gateway.proofs.vichrelka_name_to_text.Goals as goal
+
+pub returns : goal.returns
+unfolding Tells
+returns c =
+    let step = c.write in
+    (step.result, c.for_c.ensures.told, c.for_c.ensures.small, step.ensures)

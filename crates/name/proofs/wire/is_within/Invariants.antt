@@ -1,0 +1,15 @@
+use Prim.Native.Nat.{◌-◌, ◌≤◌}
+use native.Mathlib.Omega.{arith}
+use borrow.Author.Rules.{rules}
+use lib.ListN.{length}
+use Rattle.name.specs.Name.{canonical}
+use Rattle.name.proofs.NameLaws.{length_canonical}
+use Rattle.name.proofs.WireLaws.{proper_short}
+use Rattle.name.proofs.WithinLaws.{Walked, Turn, walked_none, walked_more, walked_end}
+use Rattle.name.proofs.wire.is_within.Given as goal
+
+abbrev pub invariant-loop-at : goal.invariant-loop-at
+invariant-loop-at l = Walked l.name (canonical l.zone) l.at × (1 ≤ length l.zone) × (length l.name ≤ 255)
+
+abbrev pub decreases-loop-at : goal.decreases-loop-at
+decreases-loop-at l = length l.name - l.at

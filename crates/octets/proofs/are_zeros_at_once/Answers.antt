@@ -1,0 +1,50 @@
+use Prim.Native.Nat.{ℕ, ◌-◌, ◌≤◌}
+use mathlib.Core.Path.{◌≡◌, refl, sym, ap, ap₂, ◌∙◌}
+use mathlib.Core.List.{List}
+use native.Mathlib.Omega.{arith}
+use lib.Bits.{bit_or}
+use lib.ListN.{length, get_or, take, replicate, length-replicate, get_or-replicate}
+use lib.Seq.{take_all}
+use borrow.Author.Tests.{eqb-true, eqb-false}
+use Rattle.base.proofs.Lists.{take_more}
+use Rattle.octets.proofs.SameLaws.{or_none_lem}
+use Rattle.octets.proofs.are_zeros_at_once.Goals as goal
+
+-- so many zeros as there are bytes
+abbrev zeros : List ℕ → List ℕ
+zeros l = replicate (length l) 0
+
+-- the bits of the bytes passed are none exactly if they are all 0
+pub record Passed (b : List ℕ) (bits i : ℕ) : Type 0 where
+  pub low : i ≤ length b
+  pub forth : bits ≡ 0 → take i b ≡ take i (zeros b)
+  pub back : b ≡ zeros b → bits ≡ 0
+
+
+pub loop-i-init : goal.loop-i-init
+loop-i-init c = record { low = omega arith; forth = λ z. refl; back = λ e. refl }
+
+pub loop-i-preserved : goal.loop-i-preserved
+loop-i-preserved c =
+    let l = c.loop-i in
+    let b = c.args.bytes.now in
+    let more = c.loop-i-test.true in
+    let zero-there = get_or-replicate {A = ℕ} (length b) l.i 0 0 more in
+    record {
+      low = omega arith;
+      forth = λ z.
+          let none-set = or_none_lem l.bits (get_or b l.i 0) z in
+          take_more b (zeros b) l.i (l.invariant.forth none-set.0) (none-set.1 ∙ sym zero-there) more (omega (arith, length-replicate {A = ℕ} (length b) 0));
+      back = λ e. ap₂ bit_or (l.invariant.back e) (ap (λ (t : List ℕ). get_or t l.i 0) e ∙ zero-there);
+    }
+
+pub returns : goal.returns
+returns c =
+    let l = c.loop-i in
+    let b = c.args.bytes.now in
+    let all = c.loop-i-test.false in
+    record {
+      if_true = λ t.
+          sym (take_all l.i b all) ∙ l.invariant.forth (eqb-true l.bits 0 t) ∙ take_all l.i (zeros b) (omega (arith, length-replicate {A = ℕ} (length b) 0));
+      if_false = λ f e. eqb-false l.bits 0 f (l.invariant.back e);
+    }

@@ -1,0 +1,12 @@
+use Prim.Native.Nat.{◌+◌, ◌-◌}
+use native.Mathlib.Omega.{arith}
+use lib.ListN.{drop, length-drop}
+use Rattle.base.proofs.Fill.{Copied, copied_none, copied_more, copied_all}
+use Rattle.octets.proofs.CloseUpLaws.{read_behind}
+use Rattle.octets.proofs.move_up.Given as goal
+
+abbrev pub invariant-loop-i : goal.invariant-loop-i
+invariant-loop-i l = Copied l.initial.row l.at (drop (l.at + l.size) l.initial.row) l.row l.i
+
+abbrev pub decreases-loop-i : goal.decreases-loop-i
+decreases-loop-i l = l.count - l.i

@@ -1,0 +1,12 @@
+use Prim.Native.Nat.{ℕ, ◌-◌}
+use mathlib.Core.Path.{sym}
+use native.Mathlib.Omega.{arith}
+use lib.ListN.{replicate, length-replicate, get_or-replicate}
+use Rattle.base.proofs.Fill.{Copied, copied_none, copied_more, copied_all}
+use Rattle.octets.proofs.put_zeros.Given as goal
+
+abbrev pub invariant-loop-i : goal.invariant-loop-i
+invariant-loop-i l = Copied l.initial.to l.at (replicate l.size 0) l.to l.i
+
+abbrev pub decreases-loop-i : goal.decreases-loop-i
+decreases-loop-i l = l.size - l.i

@@ -1,0 +1,18 @@
+use Prim.Native.Nat.{ℕ}
+use mathlib.Core.Path.{ap, ◌∙◌}
+use native.Mathlib.Omega.{arith}
+use lib.ListN.{get_or}
+use Rattle.slots.specs.Promise.{is_set}
+use Rattle.slots.proofs.EffectLaws.{slot_of_lem, of_slot, long, field_bit_some, field_flag}
+use borrow.Author.Rules.{rules}
+use Rattle.slot.proofs.has.Goals as goal
+
+pub bounds-slot-256 : goal.bounds-slot-256
+bounds-slot-256 c = omega (arith, long (of_slot c.args.slot.now c.requires))
+
+pub is_set-requires : goal.is_set-requires
+is_set-requires c = omega (arith, field_bit_some c.args.rtype)
+
+pub returns : goal.returns
+returns c =
+    λ e w form. c.is_set.ensures ∙ ap (λ (k : ℕ). is_set k (get_or c.args.slot.now 256 0)) c.field_bit.ensures ∙ field_flag (slot_of_lem w form) c.args.rtype

@@ -1,0 +1,26 @@
+use Prim.Native.Nat.{ℕ, ◌+◌, ◌-◌, ◌*◌}
+use mathlib.Core.Path.{◌≡◌, ap}
+use native.Mathlib.Omega.{arith}
+use lib.ListN.{take, drop, get_or}
+use Rattle.slots.specs.Promise.{name_at}
+use Rattle.slots.specs.Sizes.{slot_size}
+use borrow.Author.Rules.{rules}
+use Rattle.slot_row.proofs.name_at.Goals as goal
+
+pub overflow_cast-len : goal.overflow_cast-len
+overflow_cast-len c = omega (arith, c.type_inv.table (slot_size * c.args.i))
+
+pub overflow_add-result : goal.overflow_add-result
+overflow_add-result c = omega (arith, c.type_inv.table (slot_size * c.args.i))
+
+pub slice_bounds-result-end : goal.slice_bounds-result-end
+slice_bounds-result-end c = omega (arith, c.type_inv.table (slot_size * c.args.i))
+
+pub returns : goal.returns
+unfolding name_at
+returns c =
+    let a = c.args in
+    let at = slot_size * a.i in
+    let v = get_or a.table.now at 0 in
+    let size : at + 1 + v - (at + 1) ≡ v = omega arith in
+    ap (λ (n : ℕ). take n (drop (at + 1) a.table.now)) size

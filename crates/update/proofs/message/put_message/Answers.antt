@@ -1,0 +1,23 @@
+use borrow.Author.Rules.{rules}
+use Rattle.update.proofs.message.put_message.Goals as goal
+
+pub put_add_first-requires : goal.put_add_first-requires
+put_add_first-requires c =
+    (c.requires.zone_len_bound, (c.requires.owner_len_bound.0, (c.requires.owner_len_bound.1.0, (c.requires.owner_len_bound.1.1.0, rw c.in-AddFirst.is at c.requires.owner_len_bound.1.1.1))))
+
+pub put_add_second-requires : goal.put_add_second-requires
+put_add_second-requires c =
+    (c.requires.zone_len_bound, (c.requires.owner_len_bound.0, (c.requires.owner_len_bound.1.0, (c.requires.owner_len_bound.1.1.0, rw c.in-AddSecond.is at c.requires.owner_len_bound.1.1.1))))
+
+pub put_remove_first-requires : goal.put_remove_first-requires
+put_remove_first-requires c =
+    (c.requires.zone_len_bound, (c.requires.owner_len_bound.0, (c.requires.owner_len_bound.1.0, (c.requires.owner_len_bound.1.1.0, rw c.in-RemoveFirst.is at c.requires.owner_len_bound.1.1.1))))
+
+pub returns-in-AddFirst : goal.returns-in-AddFirst
+returns-in-AddFirst c = rw c.in-AddFirst.is c.put_add_first.ensures.out_after
+
+pub returns-in-AddSecond : goal.returns-in-AddSecond
+returns-in-AddSecond c = rw c.in-AddSecond.is c.put_add_second.ensures.out_after
+
+pub returns-in-RemoveFirst : goal.returns-in-RemoveFirst
+returns-in-RemoveFirst c = rw c.in-RemoveFirst.is c.put_remove_first.ensures.out_after

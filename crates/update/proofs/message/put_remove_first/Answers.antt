@@ -1,0 +1,17 @@
+use mathlib.Core.Path.{sym, ap, ◌∙◌}
+use native.Mathlib.Omega.{arith}
+use Rattle.base.specs.Bytes.{overlay}
+use Rattle.update.specs.Updates.{remove_first}
+use Rattle.update.proofs.LengthLaws.{head_long, has_long}
+use Rattle.update.proofs.RestLaws.{three, one_update}
+use borrow.Author.Rules.{rules}
+use Rattle.update.proofs.message.put_remove_first.Goals as goal
+
+pub returns : goal.returns
+unfolding remove_first
+returns c =
+    let q1 = c.put_head-at in
+    let q2 = c.put_has-at in
+    let q3 = c.put_record-at in record { value = omega (arith, q1.ensures.value, q2.ensures.value, q3.ensures.value, c.requires.owner_len_bound.1.0); out_after = three c.args.out.now _ _ _ _ _ _ _ _ (q1.ensures.value ∙ sym (head_long _ _ _ _)) (q2.ensures.value ∙ sym (has_long _ _ _ _ c.requires.owner_len_bound.1.0)) (omega (arith, q1.ensures.value, q2.ensures.value, c.requires.owner_len_bound.1.0, c.requires.owner_len_bound.1.1.1))
+          q1.ensures.to_after q2.ensures.to_after q3.ensures.to_after
+          ∙ ap (overlay _ 0) (one_update _ _ _ _) }
