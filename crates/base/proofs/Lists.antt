@@ -88,6 +88,8 @@ module _ {A : Type 0} {P : A → Type 0} where
 pub pairwise_on : {A B : Type 0} {R : A → B → Type 0} (l : List A) (m : List B) (a : A) (b : B) → Pairwise R l m → R a b → Pairwise R (l ++ a ∷ []) (m ++ b ∷ [])
 pairwise_on [] [] a b Pairwise.none r = Pairwise.more r Pairwise.none
 pairwise_on (x ∷ l) (y ∷ m) a b (Pairwise.more h hs) r = Pairwise.more h (pairwise_on l m a b hs r)
+pairwise_on {A = A} {B = B} {R = R} [] (y ∷ m) a b x4 r = elim x4 [ ]
+pairwise_on {A = A} {B = B} {R = R} (x ∷ l) [] a b x5 r = elim x5 [ ]
 
 pub pairwise_append : {A B : Type 0} {R : A → B → Type 0} {l : List A} {m : List B} {l' : List A} {m' : List B} → Pairwise R l m → Pairwise R l' m' → Pairwise R (l ++ l') (m ++ m')
 pairwise_append Pairwise.none k = k
@@ -128,6 +130,8 @@ module _ {A B : Type 0} (f : A → B) where
     pub map_pairwise : ((a b : A) → R a b → f a ≡ f b) → (l m : List A) → Pairwise R l m → map f l ≡ map f m
     map_pairwise g [] [] Pairwise.none = refl
     map_pairwise g (a ∷ l) (b ∷ m) (Pairwise.more h hs) = ap₂ ◌∷◌ (g a b h) (map_pairwise g l m hs)
+    map_pairwise g [] (b ∷ m) x'' = elim x'' [ ]
+    map_pairwise g (a ∷ l) [] x3 = elim x3 [ ]
 
     pub pairwise_map : ((a b : A) → f a ≡ f b → R a b) → (l m : List A) → map f l ≡ map f m → Pairwise R l m
     pairwise_map g [] [] e = Pairwise.none
