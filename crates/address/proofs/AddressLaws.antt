@@ -51,6 +51,8 @@ a_fields w bs s = record { parts = map (decimal 3) bs; word = s.word; fields = o
 octet_parts_lem : (ps : List (List ℕ)) (bs : List ℕ) → Pairwise (Field octets) ps bs → ps ≡ map (decimal 3) bs
 octet_parts_lem [] [] Pairwise.none = refl
 octet_parts_lem (p ∷ ps) (b ∷ bs) (Pairwise.more h hs) = λ i. decimal_only 3 p b h.number (h.shortest refl) h.short i ∷ octet_parts_lem ps bs hs i
+octet_parts_lem [] (b ∷ bs) x'' = elim x'' [ ]
+octet_parts_lem (p ∷ ps) [] x3 = elim x3 [ ]
 
 pub octets_small : (w ns : List ℕ) → Fields octets w ns → Every (λ n. n < 256) ns
 octets_small w ns h = pairwise_second (λ p n g. let small : n ≤ 255 = g.small in omega arith) h.fields

@@ -10,7 +10,7 @@ use lib.ListN.{length, take, drop, get_or, replicate, length-append, length-drop
 use lib.Seq.{take_at, drop_at, drop-drop, get_or-take, get_or-drop, length-take-le}
 use Rattle.base.specs.Bytes.{closed_up}
 use Rattle.base.specs.Logic.{Every, Decides}
-use Rattle.base.specs.Rows.{inSlots, rowBytes, IsRow}
+use Rattle.base.specs.Rows.{in_slots, row_bytes, IsRow}
 use Rattle.base.proofs.Bytes.{take_replicate, drop_replicate}
 use Rattle.base.proofs.Lists.{every_left, every_middle, every_right}
 
@@ -19,75 +19,75 @@ more_slots : (size k : ℕ) → size * suc k ≡ size + size * k
 more_slots size k = mul-suc size k ∙ omega arith
 
 module _ {E : Type 0} (slot : E → List ℕ) (size : ℕ) where
-  pub row_none : (k : ℕ) → rowBytes slot size k [] ≡ replicate (size * k) 0
-  unfolding rowBytes inSlots
+  pub row_none : (k : ℕ) → row_bytes slot size k [] ≡ replicate (size * k) 0
+  unfolding row_bytes in_slots
   row_none k = let all : k - 0 ≡ k = omega arith in ap (λ (j : ℕ). replicate (size * j) 0) all
 
-  pub row_more : (k : ℕ) (e : E) (es : List E) → rowBytes slot size (suc k) (e ∷ es) ≡ slot e ++ rowBytes slot size k es
-  unfolding rowBytes inSlots
+  pub row_more : (k : ℕ) (e : E) (es : List E) → row_bytes slot size (suc k) (e ∷ es) ≡ slot e ++ row_bytes slot size k es
+  unfolding row_bytes in_slots
   row_more k e es =
       let less : suc k - suc (length es) ≡ k - length es = omega arith in
-      append_assoc (slot e) (inSlots slot es) (replicate (size * (suc k - suc (length es))) 0)
-      ∙ ap (λ (j : ℕ). slot e ++ (inSlots slot es ++ replicate (size * j) 0)) less
+      append_assoc (slot e) (in_slots slot es) (replicate (size * (suc k - suc (length es))) 0)
+      ∙ ap (λ (j : ℕ). slot e ++ (in_slots slot es ++ replicate (size * j) 0)) less
 
-  slots_append : (p r : List E) → inSlots slot (p ++ r) ≡ inSlots slot p ++ inSlots slot r
-  unfolding inSlots
+  slots_append : (p r : List E) → in_slots slot (p ++ r) ≡ in_slots slot p ++ in_slots slot r
+  unfolding in_slots
   slots_append [] r = refl
-  slots_append (e ∷ p) r = ap (λ (b : List ℕ). slot e ++ b) (slots_append p r) ∙ sym (append_assoc (slot e) (inSlots slot p) (inSlots slot r))
+  slots_append (e ∷ p) r = ap (λ (b : List ℕ). slot e ++ b) (slots_append p r) ∙ sym (append_assoc (slot e) (in_slots slot p) (in_slots slot r))
 
   -- the slots of p, and then a smaller row
-  pub row_split : (k : ℕ) (p r : List E) → rowBytes slot size k (p ++ r) ≡ inSlots slot p ++ rowBytes slot size (k - length p) r
-  unfolding rowBytes
+  pub row_split : (k : ℕ) (p r : List E) → row_bytes slot size k (p ++ r) ≡ in_slots slot p ++ row_bytes slot size (k - length p) r
+  unfolding row_bytes
   row_split k p r =
       let left : k - length (p ++ r) ≡ k - length p - length r = omega (arith, length-append p r) in
       ap₂ (λ (b : List ℕ) (n : ℕ). b ++ replicate (size * n) 0) (slots_append p r) left
-      ∙ append_assoc (inSlots slot p) (inSlots slot r) (replicate (size * (k - length p - length r)) 0)
+      ∙ append_assoc (in_slots slot p) (in_slots slot r) (replicate (size * (k - length p - length r)) 0)
 
 module _ {E : Type 0} (slot : E → List ℕ) (size : ℕ) (WellFormed : E → Type 0) (sized : (e : E) → WellFormed e → length (slot e) ≡ size) where
-  pub length_slots : (es : List E) → Every WellFormed es → length (inSlots slot es) ≡ size * length es
-  unfolding inSlots
+  pub length_slots : (es : List E) → Every WellFormed es → length (in_slots slot es) ≡ size * length es
+  unfolding in_slots
   length_slots [] Every.none = sym (mul-zero size)
   length_slots (e ∷ es) (Every.more w each) =
-      length-append (slot e) (inSlots slot es) ∙ ap₂ ◌+◌ (sized e w) (length_slots es each) ∙ sym (more_slots size (length es))
+      length-append (slot e) (in_slots slot es) ∙ ap₂ ◌+◌ (sized e w) (length_slots es each) ∙ sym (more_slots size (length es))
 
   -- ---- cut at an index
 
   module _ (k : ℕ) (p r : List E) (b : List ℕ) (h : IsRow slot size WellFormed k (p ++ r) b) where
-    front_size : length (inSlots slot p) ≡ size * length p
+    front_size : length (in_slots slot p) ≡ size * length p
     front_size = length_slots p (every_left p r h.each)
 
-    cut : b ≡ inSlots slot p ++ rowBytes slot size (k - length p) r
+    cut : b ≡ in_slots slot p ++ row_bytes slot size (k - length p) r
     cut = h.form ∙ row_split slot size k p r
 
-    before : take (size * length p) b ≡ inSlots slot p
-    before = ap (take (size * length p)) cut ∙ take_at (inSlots slot p) (rowBytes slot size (k - length p) r) (size * length p) front_size
+    before : take (size * length p) b ≡ in_slots slot p
+    before = ap (take (size * length p)) cut ∙ take_at (in_slots slot p) (row_bytes slot size (k - length p) r) (size * length p) front_size
 
-    after : drop (size * length p) b ≡ rowBytes slot size (k - length p) r
-    after = ap (drop (size * length p)) cut ∙ drop_at (inSlots slot p) (rowBytes slot size (k - length p) r) (size * length p) front_size
+    after : drop (size * length p) b ≡ row_bytes slot size (k - length p) r
+    after = ap (drop (size * length p)) cut ∙ drop_at (in_slots slot p) (row_bytes slot size (k - length p) r) (size * length p) front_size
 
-    behind_slot : drop (size * length p + size) b ≡ drop size (rowBytes slot size (k - length p) r)
+    behind_slot : drop (size * length p + size) b ≡ drop size (row_bytes slot size (k - length p) r)
     behind_slot = sym (drop-drop size (size * length p) b) ∙ ap (drop size) after
 
     -- another slot there, and in what stands behind it the entries q
-    put_slot : (e : E) (q : List E) → length p < k → drop size (rowBytes slot size (k - length p) r) ≡ rowBytes slot size (k - length p - 1) q
-        → take (size * length p) b ++ slot e ++ drop (size * length p + size) b ≡ rowBytes slot size k (p ++ e ∷ q)
+    put_slot : (e : E) (q : List E) → length p < k → drop size (row_bytes slot size (k - length p) r) ≡ row_bytes slot size (k - length p - 1) q
+        → take (size * length p) b ++ slot e ++ drop (size * length p + size) b ≡ row_bytes slot size k (p ++ e ∷ q)
     put_slot e q room rest =
         let less : suc (k - length p - 1) ≡ k - length p = omega arith in
         ap₂ (λ (u v : List ℕ). u ++ slot e ++ v) before (behind_slot ∙ rest)
-        ∙ append_assoc (inSlots slot p) (slot e) (rowBytes slot size (k - length p - 1) q)
-        ∙ ap (λ (v : List ℕ). inSlots slot p ++ v) (sym (row_more slot size (k - length p - 1) e q) ∙ ap (λ (n : ℕ). rowBytes slot size n (e ∷ q)) less)
+        ∙ append_assoc (in_slots slot p) (slot e) (row_bytes slot size (k - length p - 1) q)
+        ∙ ap (λ (v : List ℕ). in_slots slot p ++ v) (sym (row_more slot size (k - length p - 1) e q) ∙ ap (λ (n : ℕ). row_bytes slot size n (e ∷ q)) less)
         ∙ sym (row_split slot size k p (e ∷ q))
 
   -- the entries from one on
   pub rest_row : (i k : ℕ) (es : List E) (b : List ℕ) → IsRow slot size WellFormed k es b → i ≤ length es → IsRow slot size WellFormed (k - i) (drop i es) (drop (size * i) b)
   rest_row i k es b h low =
-      let whole-list : take i es ++ drop i es ≡ es = take-append-drop i es in
-      let g = subst (λ (l : List E). IsRow slot size WellFormed k l b) (sym whole-list) h in
+      let whole_list : take i es ++ drop i es ≡ es = take-append-drop i es in
+      let g = subst (λ (l : List E). IsRow slot size WellFormed k l b) (sym whole_list) h in
       let long : length (take i es) ≡ i = length-take-le i es low in
       record {
         each = every_right (take i es) (drop i es) g.each;
         room = omega (arith, h.room, length-drop i es);
-        form = ap (λ (n : ℕ). drop (size * n) b) (sym long) ∙ after k (take i es) (drop i es) b g ∙ ap (λ (n : ℕ). rowBytes slot size (k - n) (drop i es)) long;
+        form = ap (λ (n : ℕ). drop (size * n) b) (sym long) ∙ after k (take i es) (drop i es) b g ∙ ap (λ (n : ℕ). row_bytes slot size (k - n) (drop i es)) long;
       }
 
   -- at an entry
@@ -98,32 +98,32 @@ module _ {E : Type 0} (slot : E → List ℕ) (size : ℕ) (WellFormed : E → T
     within : length p < k
     within = omega (arith, h.room, length-append p (e ∷ r))
 
-    split : rowBytes slot size (k - length p) (e ∷ r) ≡ slot e ++ rowBytes slot size (k - length p - 1) r
+    split : row_bytes slot size (k - length p) (e ∷ r) ≡ slot e ++ row_bytes slot size (k - length p - 1) r
     split =
         let less : k - length p ≡ suc (k - length p - 1) = omega (arith, within) in
-        ap (λ (n : ℕ). rowBytes slot size n (e ∷ r)) less ∙ row_more slot size (k - length p - 1) e r
+        ap (λ (n : ℕ). row_bytes slot size n (e ∷ r)) less ∙ row_more slot size (k - length p - 1) e r
 
-    rest_behind : drop size (rowBytes slot size (k - length p) (e ∷ r)) ≡ rowBytes slot size (k - length p - 1) r
-    rest_behind = ap (drop size) split ∙ drop_at (slot e) (rowBytes slot size (k - length p - 1) r) size (sized e entry_well_formed)
+    rest_behind : drop size (row_bytes slot size (k - length p) (e ∷ r)) ≡ row_bytes slot size (k - length p - 1) r
+    rest_behind = ap (drop size) split ∙ drop_at (slot e) (row_bytes slot size (k - length p - 1) r) size (sized e entry_well_formed)
 
     pub slot_there : take size (drop (size * length p) b) ≡ slot e
-    slot_there = ap (take size) (after k p (e ∷ r) b h ∙ split) ∙ take_at (slot e) (rowBytes slot size (k - length p - 1) r) size (sized e entry_well_formed)
+    slot_there = ap (take size) (after k p (e ∷ r) b h ∙ split) ∙ take_at (slot e) (row_bytes slot size (k - length p - 1) r) size (sized e entry_well_formed)
 
-    pub replaced : (f : E) → take (size * length p) b ++ slot f ++ drop (size * length p + size) b ≡ rowBytes slot size k (p ++ f ∷ r)
+    pub replaced : (f : E) → take (size * length p) b ++ slot f ++ drop (size * length p + size) b ≡ row_bytes slot size k (p ++ f ∷ r)
     replaced f = put_slot k p (e ∷ r) b h f r within rest_behind
 
-    pub taken_out : closed_up size b (size * length p) ≡ rowBytes slot size k (p ++ r)
-    unfolding closed_up rowBytes
+    pub taken_out : closed_up size b (size * length p) ≡ row_bytes slot size k (p ++ r)
+    unfolding closed_up row_bytes
     taken_out =
         let j = k - length p - 1 in
-        let rest : drop (size * length p + size) b ≡ inSlots slot r ++ replicate (size * (j - length r)) 0 = behind_slot k p (e ∷ r) b h ∙ rest_behind in
+        let rest : drop (size * length p + size) b ≡ in_slots slot r ++ replicate (size * (j - length r)) 0 = behind_slot k p (e ∷ r) b h ∙ rest_behind in
         let count : k - length p - length r ≡ suc (j - length r) = omega (arith, h.room, length-append p (e ∷ r)) in
         let more : size * (j - length r) + size ≡ size * (k - length p - length r) = sym (mul-suc size (j - length r)) ∙ ap (λ (n : ℕ). size * n) (sym count) in
         ap₂ (λ (u v : List ℕ). u ++ v ++ replicate size 0) (before k p (e ∷ r) b h) rest
-        ∙ append_assoc (inSlots slot p) (inSlots slot r ++ replicate (size * (j - length r)) 0) (replicate size 0)
-        ∙ ap (λ (v : List ℕ). inSlots slot p ++ v)
-        (append_assoc (inSlots slot r) (replicate (size * (j - length r)) 0) (replicate size 0)
-        ∙ ap (λ (v : List ℕ). inSlots slot r ++ v) (replicate-append-replicate (size * (j - length r)) size 0 ∙ ap (λ (n : ℕ). replicate n 0) more))
+        ∙ append_assoc (in_slots slot p) (in_slots slot r ++ replicate (size * (j - length r)) 0) (replicate size 0)
+        ∙ ap (λ (v : List ℕ). in_slots slot p ++ v)
+        (append_assoc (in_slots slot r) (replicate (size * (j - length r)) 0) (replicate size 0)
+        ∙ ap (λ (v : List ℕ). in_slots slot r ++ v) (replicate-append-replicate (size * (j - length r)) size 0 ∙ ap (λ (n : ℕ). replicate n 0) more))
         ∙ sym (row_split slot size k p r)
 
   -- behind the last entry
@@ -135,10 +135,10 @@ module _ {E : Type 0} (slot : E → List ℕ) (size : ℕ) (WellFormed : E → T
     unused_from = after k es [] b whole ∙ row_none slot size (k - length es)
 
     pub length_row : length b ≡ size * k
-    unfolding rowBytes
+    unfolding row_bytes
     length_row =
         let all : length es + (k - length es) ≡ k = omega (arith, h.room) in
-        ap length h.form ∙ length-append (inSlots slot es) (replicate (size * (k - length es)) 0)
+        ap length h.form ∙ length-append (in_slots slot es) (replicate (size * (k - length es)) 0)
         ∙ ap₂ ◌+◌ (length_slots es h.each) (length-replicate {A = ℕ} (size * (k - length es)) 0)
         ∙ sym (mul-add size (length es) (k - length es)) ∙ ap (λ (n : ℕ). size * n) all
 
@@ -149,7 +149,7 @@ module _ {E : Type 0} (slot : E → List ℕ) (size : ℕ) (WellFormed : E → T
       pub unused_there : take size (drop (size * length es) b) ≡ replicate size 0
       unused_there = ap (take size) unused_from ∙ take_replicate size (size * (k - length es)) 0 (omega (arith, one_less))
 
-      pub appended : (e : E) → take (size * length es) b ++ slot e ++ drop (size * length es + size) b ≡ rowBytes slot size k (es ++ e ∷ [])
+      pub appended : (e : E) → take (size * length es) b ++ slot e ++ drop (size * length es + size) b ≡ row_bytes slot size k (es ++ e ∷ [])
       appended e =
           let less : size * (k - length es) - size ≡ size * (k - length es - 1) = omega (arith, one_less) in
           put_slot k es [] b whole e [] room
@@ -168,14 +168,14 @@ module _ {E : Type 0} (slot : E → List ℕ) (size : ℕ) (WellFormed : E → T
     unused : b ≡ replicate (size * k) 0 → Front k b []
     used : {e : E} {es : List E} (j : ℕ) → k ≡ suc j → WellFormed e → take size b ≡ slot e → Row j es (drop size b) → Front k b (e ∷ es)
 
-  front_at : (k : ℕ) (es : List E) (b : List ℕ) → Every WellFormed es → length es ≤ k → b ≡ rowBytes slot size k es → Front k b es
+  front_at : (k : ℕ) (es : List E) (b : List ℕ) → Every WellFormed es → length es ≤ k → b ≡ row_bytes slot size k es → Front k b es
   front_at k [] b each room form = Front.unused (form ∙ row_none slot size k)
   front_at zero (e ∷ es) b each room form = absurd (omega arith)
   front_at (suc k) (e ∷ es) b (Every.more w each) room form =
       let cut_there = form ∙ row_more slot size k e es in
       Front.used k refl w
-      (ap (take size) cut_there ∙ take_at (slot e) (rowBytes slot size k es) size (sized e w))
-      (record { each = each; room = omega arith; form = ap (drop size) cut_there ∙ drop_at (slot e) (rowBytes slot size k es) size (sized e w) })
+      (ap (take size) cut_there ∙ take_at (slot e) (row_bytes slot size k es) size (sized e w))
+      (record { each = each; room = omega arith; form = ap (drop size) cut_there ∙ drop_at (slot e) (row_bytes slot size k es) size (sized e w) })
 
   front : (k : ℕ) (es : List E) (b : List ℕ) → Row k es b → Front k b es
   front k es b h = front_at k es b h.each h.room h.form
@@ -280,9 +280,9 @@ module _ {E : Type 0} (slot : E → List ℕ) (size : ℕ) (WellFormed : E → T
     pub row_unused_decides : get_or b (size * i) 0 ≡ 0 → length b ≡ size * k → (d : Bool) (rest : List ℕ) → rest ≡ drop (size * i) b → Decides d (rest ≡ replicate (length rest) 0) → Decides d (SomeRow k b)
     row_unused_decides z long d rest e decides =
         let all : i + (k - i) ≡ k = omega (arith, r.low) in
-        let cut-size : size * k ≡ size * i + size * (k - i) = ap (λ (n : ℕ). size * n) (sym all) ∙ mul-add size i (k - i) in
-        let rest-size : length rest ≡ size * (k - i) = ap length e ∙ length-drop (size * i) b ∙ omega (arith, long, cut-size) in
-        let zeros : replicate {A = ℕ} (length rest) 0 ≡ replicate (size * (k - i)) 0 = ap (λ (n : ℕ). replicate n 0) rest-size in
+        let cut_size : size * k ≡ size * i + size * (k - i) = ap (λ (n : ℕ). size * n) (sym all) ∙ mul-add size i (k - i) in
+        let rest_size : length rest ≡ size * (k - i) = ap length e ∙ length-drop (size * i) b ∙ omega (arith, long, cut_size) in
+        let zeros : replicate {A = ℕ} (length rest) 0 ≡ replicate (size * (k - i)) 0 = ap (λ (n : ℕ). replicate n 0) rest_size in
         record {
           if_true = λ t. r.forth ([], nothing_in (k - i) (drop (size * i) b) (sym e ∙ decides.if_true t ∙ zeros));
           if_false = λ f h. let g = r.back h in decides.if_false f (e ∙ (unused_first (k - i) (drop (size * i) b) (sym first_here ∙ z) g.0 g.1).1 ∙ sym zeros);

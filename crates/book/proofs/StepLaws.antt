@@ -20,7 +20,7 @@ use Rattle.base.proofs.Tests.{eq_bytes_true}
 use Rattle.block.specs.Sealed.{block_size}
 use Rattle.name.specs.Name.{Proper, canonical}
 use Rattle.name.proofs.Theorems.{canonical_form}
-use Rattle.slots.specs.Effect.{entered, refreshed, takenOver, deleted}
+use Rattle.slots.specs.Effect.{entered, refreshed, taken_over, deleted}
 use Rattle.slots.specs.Entry.{family_of, names, Distinct}
 use Rattle.slots.specs.Form.{TableEntry, WellFormed, table_bytes, IsTable, Sound}
 use Rattle.slots.specs.Sizes.{slot_size}
@@ -87,7 +87,7 @@ module _ (t : List TableEntry) (n d : List ℕ) (f : Family) (x : List ℕ) wher
       subst (λ (y : StepOutcome (List ℕ)). ToldBy n t y.table) (sym e) (told_changed n (refreshed f x) t c (keeps_name f (some x)) found (found_named n t c found))
   told_add limit policy o (Adding.first_wins c k found holder differs p e) z = absurd (omega (arith, z, ap (λ (y : StepOutcome (List ℕ)). number y.answer) e))
   told_add limit policy o (Adding.latest_wins c k found holder differs p e) z =
-      subst (λ (y : StepOutcome (List ℕ)). ToldBy n t y.table) (sym e) (told_changed n (takenOver d f x) t c (taken_keeps_name d f x) found (found_named n t c found))
+      subst (λ (y : StepOutcome (List ℕ)). ToldBy n t y.table) (sym e) (told_changed n (taken_over d f x) t c (taken_keeps_name d f x) found (found_named n t c found))
 
   pub told_remove : Distinct (names t) → (o : StepOutcome (List ℕ)) → Removing eq_bytes t n d f x o → number o.answer ≡ 0 → ToldBy n t o.table
   told_remove distinct o (Removing.not_held found e) z = absurd (omega (arith, z, ap (λ (y : StepOutcome (List ℕ)). number y.answer) e))

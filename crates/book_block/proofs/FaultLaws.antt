@@ -82,11 +82,11 @@ module _ (s : List ℕ) (size : length s ≡ 312) (small : get_or s 0 0 < 256) w
       let k = get_or s 0 0 in
       let n = name_in s in
       let long : length (drop 1 s) ≡ 311 = length-drop 1 s ∙ omega (arith, size) in
-      let name-long : length n ≡ k = ap length (name_in_lem s) ∙ length-take-le k (drop 1 s) (omega (arith, long, small)) in
-      let rest_long : length (rest_in s) ≡ 311 - length n = ap length (rest_in_lem s) ∙ length-drop (1 + k) s ∙ omega (arith, size, name-long) in
+      let name_long : length n ≡ k = ap length (name_in_lem s) ∙ length-take-le k (drop 1 s) (omega (arith, long, small)) in
+      let rest_long : length (rest_in s) ≡ 311 - length n = ap length (rest_in_lem s) ∙ length-drop (1 + k) s ∙ omega (arith, size, name_long) in
       let tail : drop 1 s ≡ n ++ replicate (311 - length n) 0 =
       sym (take-append-drop k (drop 1 s)) ∙ ap₂ ◌++◌ (sym (name_in_lem s)) (drop-drop k 1 s ∙ sym (rest_in_lem s) ∙ zeros ∙ ap (λ (j : ℕ). replicate j 0) rest_long) in
-      let form : s ≡ length n ∷ (n ++ replicate (311 - length n) 0) = drop-cons s 0 0 (omega (arith, size)) ∙ ap₂ ◌∷◌ (sym name-long) tail in
+      let form : s ≡ length n ∷ (n ++ replicate (311 - length n) 0) = drop-cons s 0 0 (omega (arith, size)) ∙ ap₂ ◌∷◌ (sym name_long) tail in
       (n, record { proper = held.0; lower = held.1 }, form ∙ sym (bare_form n (proper_short n held.0)))
 
 -- ---- the parts of a block
@@ -103,10 +103,10 @@ block_zeros i c f =
 pub block_of_lem : (i : ℕ) (c : Note) (x : List ℕ) → length x ≡ 512 → IsSealed x → take 4 x ≡ big_endian 4 i → get_or x 4 0 ≡ kind c → take 312 (drop 5 x) ≡ slot c
     → take 163 (drop 317 x) ≡ replicate 163 0 → x ≡ block_bytes i c
 unfolding IsSealed block_bytes body
-block_of_lem i c x long sealed-so number k held zeros =
+block_of_lem i c x long sealed_so number k held zeros =
     let last : take 475 (drop 5 x) ≡ slot c ++ replicate 163 0 = take-add 312 163 (drop 5 x) ∙ ap₂ ◌++◌ held (ap (take 163) (drop-drop 312 5 x) ∙ zeros) in
     let rest : take 476 (drop 4 x) ≡ kind c ∷ slot c ++ replicate 163 0 = ap (take 476) (drop-cons x 4 0 (omega (arith, long))) ∙ ap₂ ◌∷◌ k last in
-    sealed-so ∙ ap sealed (take-add 4 476 x ∙ ap₂ ◌++◌ number rest)
+    sealed_so ∙ ap sealed (take-add 4 476 x ∙ ap₂ ◌++◌ number rest)
 
 -- ---- the answers
 

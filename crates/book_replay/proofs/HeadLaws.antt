@@ -56,6 +56,8 @@ pairwise_at book i [] [] j Pairwise.none less = absurd (omega (arith, less))
 pairwise_at book i (p ∷ l) (e ∷ t) zero (Pairwise.more h hs) less = record { entry = e; later = t; cut = refl; stood = h }
 pairwise_at book i (p ∷ l) (e ∷ t) (suc j) (Pairwise.more h hs) less =
     let k = pairwise_at book i l t j hs (omega (arith, less)) in record { entry = k.entry; later = k.later; cut = k.cut; stood = k.stood }
+pairwise_at book i [] (e ∷ t) j x4 less = elim x4 [ ]
+pairwise_at book i (p ∷ l) [] j x4 less = elim x4 [ ]
 
 module _ (book : List ℕ) (i : ℕ) (numbers : List ℕ) (used : ℕ) (t : List TableEntry) (low : used ≤ length numbers) (k : Kept book i numbers used t) where
   pub kept_at : (j : ℕ) → j < used → StoodAt book i (get_or numbers j 0) t j

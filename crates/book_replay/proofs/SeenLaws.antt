@@ -58,27 +58,27 @@ module _ (i : ℕ) (t : List TableEntry) (y : List ℕ) (long : length y ≡ 512
   pub kind_of : (c : Note) → SaysAlone i y c → get_or y 4 0 ≡ kind c
   kind_of c k = ap (λ (z : List ℕ). get_or z 4 0) k.bytes ∙ block_kind i c k.fit
 
-  pub head_of : (c : Note) → SaysAlone i y c → take 256 (drop 5 y) ≡ head_of (about c)
-  head_of c k =
+  pub head_of_lem : (c : Note) → SaysAlone i y c → take 256 (drop 5 y) ≡ head_of (about c)
+  head_of_lem c k =
       sym (take-take 256 312 (drop 5 y) (omega arith)) ∙ ap (λ (z : List ℕ). take 256 (take 312 (drop 5 z))) k.bytes ∙ ap (take 256) (block_slot i c k.fit) ∙ note_head c k.fit
 
   module _ (n : ℕ) (b : BlockIs i y n) (fine : n ≡ 0) (r : ℕ) (index : (m : List ℕ) → take 256 (drop 5 y) ≡ head_of m → r ≡ position m t) where
     right_by : (c : Note) → SaysAlone i y c → Follows c t → LookIs i y t (record { fault = 0; kind = get_or y 4 0; index = r })
     right_by c k f =
         record {
-          right = λ _. (c, record { number = k.number; fit = k.fit; bytes = k.bytes; follows = f }, kind_of c k, index (about c) (head_of c k));
+          right = λ _. (c, record { number = k.number; fit = k.fit; bytes = k.bytes; follows = f }, kind_of c k, index (about c) (head_of_lem c k));
           wrong = λ z rest. absurd (z refl);
         }
 
     -- kind 1
     pub seen_stands : (get_or y 4 0 ≡ 0 → ⊥) → LookIs i y t (record { fault = 0; kind = get_or y 4 0; index = r })
-    seen_stands some-kind = go (told b fine).0 (told b fine).1
+    seen_stands some_kind = go (told b fine).0 (told b fine).1
       where
         go : (c : Note) → SaysAlone i y c → LookIs i y t (record { fault = 0; kind = get_or y 4 0; index = r })
-        go (Note.gone m) k = absurd (some-kind (kind_of (Note.gone m) k))
+        go (Note.gone m) k = absurd (some_kind (kind_of (Note.gone m) k))
         go (Note.stands e) k = right_by (Note.stands e) k tt
 
-    module _ (book : List ℕ) (numbers : List ℕ) (used : ℕ) (low : used ≤ length numbers) (kept : Kept book i numbers used t) (zero-kind : get_or y 4 0 ≡ 0) where
+    module _ (book : List ℕ) (numbers : List ℕ) (used : ℕ) (low : used ≤ length numbers) (kept : Kept book i numbers used t) (zero_kind : get_or y 4 0 ≡ 0) where
       -- kind 0 of a name that does not stand
       pub seen_missing : r ≡ used → LookIs i y t (record { fault = 43; kind = 0; index = used })
       seen_missing last = record { right = λ e. absurd (omega (arith, e)); wrong = λ _ rest. BadFrom.field y rest refl long good nothing }
@@ -90,10 +90,10 @@ module _ (i : ℕ) (t : List TableEntry) (y : List ℕ) (long : length y ≡ 512
           good = subst IsSealed (sym known.1.bytes) (block_sealed i known.0 known.1.fit)
 
           nothing : (c : Note) → Says i t y c → ⊥
-          nothing (Note.stands e) s = suc-ne-zero 0 (sym (kind_of (Note.stands e) (said_alone i t y (Note.stands e) s)) ∙ zero-kind)
+          nothing (Note.stands e) s = suc-ne-zero 0 (sym (kind_of (Note.stands e) (said_alone i t y (Note.stands e) s)) ∙ zero_kind)
           nothing (Note.gone m) s =
               none-ne-some s.follows.0
-              (sym (not_found book i numbers used t kept low m r (index m (head_of (Note.gone m) (said_alone i t y (Note.gone m) s))) (omega (arith, last))) ∙ s.follows.1)
+              (sym (not_found book i numbers used t kept low m r (index m (head_of_lem (Note.gone m) (said_alone i t y (Note.gone m) s))) (omega (arith, last))) ∙ s.follows.1)
 
       -- and of one that does
       pub seen_gone : (r ≡ used → ⊥) → LookIs i y t (record { fault = 0; kind = get_or y 4 0; index = r })
@@ -107,5 +107,5 @@ module _ (i : ℕ) (t : List TableEntry) (y : List ℕ) (long : length y ≡ 512
           there m own (Standing.at p e q cut here found change gone) = (e, found)
 
           go : (c : Note) → SaysAlone i y c → LookIs i y t (record { fault = 0; kind = get_or y 4 0; index = r })
-          go (Note.gone m) k = right_by (Note.gone m) k (there m (index m (head_of (Note.gone m) k)) (standing m t))
-          go (Note.stands e) k = absurd (suc-ne-zero 0 (sym (kind_of (Note.stands e) k) ∙ zero-kind))
+          go (Note.gone m) k = right_by (Note.gone m) k (there m (index m (head_of_lem (Note.gone m) k)) (standing m t))
+          go (Note.stands e) k = absurd (suc-ne-zero 0 (sym (kind_of (Note.stands e) k) ∙ zero_kind))

@@ -26,7 +26,7 @@ use Rattle.book.proofs.NoteLaws.{said_snoc}
 use Rattle.book.proofs.Theorems.{replays_on, stands_as_last_said}
 use Rattle.book_block.specs.Promise.{SaysAlone, BlockIs}
 use Rattle.book_replay.specs.Judging.{head_of, block_at, RightBlocks, FaultIs, JudgesRest}
-use Rattle.book_replay.proofs.SeenLaws.{told, said_alone, fault_bad, kind_of, head_of}
+use Rattle.book_replay.proofs.SeenLaws.{told, said_alone, fault_bad, kind_of, head_of_lem}
 use Rattle.book_replay.proofs.HeadLaws.{one_head}
 
 -- ---- block j of a right book
@@ -80,7 +80,7 @@ module _ (book : List ℕ) (i : ℕ) (long : 512 * i ≤ length book) (cs : List
     tells_at = (let e : 0 + j ≡ j = omega arith in subst (λ (k : ℕ). SaysAlone k (block_at book j) at.note) e (subst (λ (z : List ℕ). SaysAlone (0 + j) z at.note) (block_in j less) at.tells))
 
     head_at : take 256 (drop (512 * j + 5) book) ≡ head_of (about at.note)
-    head_at = sym (part_of book j) ∙ head_of j [] (block_at book j) (block_long j less) at.note tells_at
+    head_at = sym (part_of book j) ∙ head_of_lem j [] (block_at book j) (block_long j less) at.note tells_at
       where
         part_of : (b : List ℕ) (k : ℕ) → take 256 (drop 5 (take 512 (drop (512 * k) b))) ≡ take 256 (drop (512 * k + 5) b)
         part_of b k = ap (take 256) (drop_take 5 512 (drop (512 * k) b)) ∙ take-take 256 507 (drop 5 (drop (512 * k) b)) (omega arith) ∙ ap (take 256) (drop-drop 5 (512 * k) b)
@@ -125,15 +125,15 @@ module _ (i : ℕ) (t : List TableEntry) (y : List ℕ) (long : length y ≡ 512
 
   module _ (n : ℕ) (b : BlockIs i y n) (fine : n ≡ 0) where
     pub beyond_stands : (get_or y 4 0 ≡ 0 → ⊥) → FaultIs i y t 0
-    beyond_stands some-kind = go (told b fine).0 (told b fine).1
+    beyond_stands some_kind = go (told b fine).0 (told b fine).1
       where
         go : (c : Note) → SaysAlone i y c → FaultIs i y t 0
-        go (Note.gone m) k = absurd (some-kind (kind_of i t y long (Note.gone m) k))
+        go (Note.gone m) k = absurd (some_kind (kind_of i t y long (Note.gone m) k))
         go (Note.stands e) k = record { right = λ _. (Note.stands e, record { number = k.number; fit = k.fit; bytes = k.bytes; follows = tt }); wrong = λ z rest. absurd (z refl) }
 
-    module _ (r : Bool) (sought : (m : List ℕ) → take 256 (drop 5 y) ≡ head_of m → r ≡ there (find m t)) (zero-kind : get_or y 4 0 ≡ 0) where
+    module _ (r : Bool) (sought : (m : List ℕ) → take 256 (drop 5 y) ≡ head_of m → r ≡ there (find m t)) (zero_kind : get_or y 4 0 ≡ 0) where
       pub beyond_gone : r ≡ true → FaultIs i y t 0
-      beyond_gone yes-there = go (told b fine).0 (told b fine).1
+      beyond_gone yes_there = go (told b fine).0 (told b fine).1
         where
           entry : (m : List ℕ) (o : Option TableEntry) → find m t ≡ o → true ≡ there o → (e : TableEntry) × (find m t ≡ some e)
           entry m none f e = absurd (true≢false e)
@@ -144,11 +144,11 @@ module _ (i : ℕ) (t : List TableEntry) (y : List ℕ) (long : length y ≡ 512
               record {
                 right = λ _. (
                   Note.gone m,
-                  record { number = k.number; fit = k.fit; bytes = k.bytes; follows = entry m (find m t) refl (sym yes-there ∙ sought m (head_of i t y long (Note.gone m) k)) },
+                  record { number = k.number; fit = k.fit; bytes = k.bytes; follows = entry m (find m t) refl (sym yes_there ∙ sought m (head_of_lem i t y long (Note.gone m) k)) },
                 );
                 wrong = λ z rest. absurd (z refl);
               }
-          go (Note.stands e) k = absurd (suc-ne-zero 0 (sym (kind_of i t y long (Note.stands e) k) ∙ zero-kind))
+          go (Note.stands e) k = absurd (suc-ne-zero 0 (sym (kind_of i t y long (Note.stands e) k) ∙ zero_kind))
 
       pub beyond_missing : r ≡ false → FaultIs i y t 43
       beyond_missing not_there = record { right = λ e. absurd (omega (arith, e)); wrong = λ _ rest. BadFrom.field y rest refl long good nothing }
@@ -160,8 +160,8 @@ module _ (i : ℕ) (t : List TableEntry) (y : List ℕ) (long : length y ≡ 512
           good = subst IsSealed (sym known.1.bytes) (block_sealed i known.0 known.1.fit)
 
           nothing : (c : Note) → Says i t y c → ⊥
-          nothing (Note.stands e) s = suc-ne-zero 0 (sym (kind_of i t y long (Note.stands e) (said_alone i t y (Note.stands e) s)) ∙ zero-kind)
-          nothing (Note.gone m) s = true≢false (sym (sym not_there ∙ sought m (head_of i t y long (Note.gone m) (said_alone i t y (Note.gone m) s)) ∙ ap there s.follows.1))
+          nothing (Note.stands e) s = suc-ne-zero 0 (sym (kind_of i t y long (Note.stands e) (said_alone i t y (Note.stands e) s)) ∙ zero_kind)
+          nothing (Note.gone m) s = true≢false (sym (sym not_there ∙ sought m (head_of_lem i t y long (Note.gone m) (said_alone i t y (Note.gone m) s)) ∙ ap there s.follows.1))
 
 pub fault_as : {i : ℕ} {y x : List ℕ} {t : List TableEntry} {r : ℕ} → y ≡ x → FaultIs i y t r → FaultIs i x t r
 fault_as {i} {y} {x} {t} {r} e h = subst (λ (z : List ℕ). FaultIs i z t r) e h

@@ -72,37 +72,37 @@ module _ (book : List ℕ) (i : ℕ) (numbers : List ℕ) (used : ℕ) (h : Reac
 
     -- kind 0: its name stands
     pub gone_there : r.kind ≡ 0 → r.index < used
-    gone_there zero-kind = go (look.right fine).0 (look.right fine).1 (look.right fine).2 (look.right fine).3
+    gone_there zero_kind = go (look.right fine).0 (look.right fine).1 (look.right fine).2 (look.right fine).3
       where
         go : (c : Note) → Says i (after h.notes) (block_at book i) c → r.kind ≡ kind c → r.index ≡ position (about c) (after h.notes) → r.index < used
         go (Note.gone n) s k index = found_there book i numbers used (after h.notes) h.kept used_low n r.index s.follows.0 index s.follows.1
-        go (Note.stands e) s k index = absurd (suc-ne-zero 0 (sym k ∙ zero-kind))
+        go (Note.stands e) s k index = absurd (suc-ne-zero 0 (sym k ∙ zero_kind))
 
     pub turn_gone : r.kind ≡ 0 → (left : List ℕ) → length left ≡ 64 → take (used - 1) left ≡ take r.index numbers ++ drop (r.index + 1) (take used numbers) → Reached 64 book (i + 1) left (used - 1)
-    turn_gone zero-kind left size same = go (look.right fine).0 (look.right fine).1 (look.right fine).2 (look.right fine).3
+    turn_gone zero_kind left size same = go (look.right fine).0 (look.right fine).1 (look.right fine).2 (look.right fine).3
       where
         go : (c : Note) → Says i (after h.notes) (block_at book i) c → r.kind ≡ kind c → r.index ≡ position (about c) (after h.notes) → Reached 64 book (i + 1) left (used - 1)
         go (Note.gone n) s k index =
             reached_next (Note.gone n) s left (used - 1) size (omega (arith, h.fits))
-            (kept_gone book i numbers used (after h.notes) h.kept used_low n r.index left index (gone_there zero-kind) same)
-        go (Note.stands e) s k index = absurd (suc-ne-zero 0 (sym k ∙ zero-kind))
+            (kept_gone book i numbers used (after h.notes) h.kept used_low n r.index left index (gone_there zero_kind) same)
+        go (Note.stands e) s k index = absurd (suc-ne-zero 0 (sym k ∙ zero_kind))
 
     -- kind 1 of a name that stands
     pub turn_changed : (r.kind ≡ 0 → ⊥) → r.index < used → Reached 64 book (i + 1) (set numbers r.index i) used
-    turn_changed some-kind there = go (look.right fine).0 (look.right fine).1 (look.right fine).2 (look.right fine).3
+    turn_changed some_kind there = go (look.right fine).0 (look.right fine).1 (look.right fine).2 (look.right fine).3
       where
         go : (c : Note) → Says i (after h.notes) (block_at book i) c → r.kind ≡ kind c → r.index ≡ position (about c) (after h.notes) → Reached 64 book (i + 1) (set numbers r.index i) used
-        go (Note.gone n) s k index = absurd (some-kind k)
+        go (Note.gone n) s k index = absurd (some_kind k)
         go (Note.stands e) s k index =
             reached_next (Note.stands e) s (set numbers r.index i) used (length-set numbers r.index i ∙ h.size) h.fits
             (kept_changed book i numbers used (after h.notes) h.kept used_low e r.index index there (stood_here book i (after h.notes) e s))
 
     -- of a new name, where there is room
     pub turn_new : (r.kind ≡ 0 → ⊥) → used ≤ r.index → used < 64 → Reached 64 book (i + 1) (set numbers used i) (used + 1)
-    turn_new some-kind least room = go (look.right fine).0 (look.right fine).1 (look.right fine).2 (look.right fine).3
+    turn_new some_kind least room = go (look.right fine).0 (look.right fine).1 (look.right fine).2 (look.right fine).3
       where
         go : (c : Note) → Says i (after h.notes) (block_at book i) c → r.kind ≡ kind c → r.index ≡ position (about c) (after h.notes) → Reached 64 book (i + 1) (set numbers used i) (used + 1)
-        go (Note.gone n) s k index = absurd (some-kind k)
+        go (Note.gone n) s k index = absurd (some_kind k)
         go (Note.stands e) s k index =
             reached_next (Note.stands e) s (set numbers used i) (used + 1) (length-set numbers used i ∙ h.size) (omega (arith, room))
             (kept_last book i numbers used (after h.notes) h.kept used_low e (not_found book i numbers used (after h.notes) h.kept used_low e.name r.index index least)
@@ -110,11 +110,11 @@ module _ (book : List ℕ) (i : ℕ) (numbers : List ℕ) (used : ℕ) (h : Reac
 
     -- and where there is none
     pub turn_full : (r.kind ≡ 0 → ⊥) → used ≤ r.index → 64 ≤ used → (c : Note) × Says i (after h.notes) (block_at book i) c × (65 ≤ length (after (h.notes ++ c ∷ [])))
-    turn_full some-kind least none_left = go (look.right fine).0 (look.right fine).1 (look.right fine).2 (look.right fine).3
+    turn_full some_kind least none_left = go (look.right fine).0 (look.right fine).1 (look.right fine).2 (look.right fine).3
       where
         go : (c : Note) → Says i (after h.notes) (block_at book i) c → r.kind ≡ kind c → r.index ≡ position (about c) (after h.notes)
             → (c : Note) × Says i (after h.notes) (block_at book i) c × (65 ≤ length (after (h.notes ++ c ∷ [])))
-        go (Note.gone n) s k index = absurd (some-kind k)
+        go (Note.gone n) s k index = absurd (some_kind k)
         go (Note.stands e) s k index =
             let absent = not_found book i numbers used (after h.notes) h.kept used_low e.name r.index index least in
             let many = kept_length book i numbers used (after h.notes) used_low h.kept in
@@ -131,11 +131,11 @@ module _ (book : List ℕ) (i : ℕ) (numbers : List ℕ) (used : ℕ) (h : Reac
 
   pub judged_bad : i ≤ length book / 512 → (n : ℕ) → (n ≡ 0 → ⊥) → ((rest : List ℕ) → BadFrom i (after h.notes) (block_at book i ++ rest) n)
       → JudgedAs 64 book numbers (record { used = used; good = i; fault = n })
-  judged_bad within n some-fault wrong =
+  judged_bad within n some_fault wrong =
       record {
         reached = h;
         within = within;
-        whole = λ f. absurd (some-fault f);
+        whole = λ f. absurd (some_fault f);
         full = λ f. absurd (⊎_elim (λ a. omega (arith, f, a)) (λ a. omega (arith, f, a)) (bad_number (wrong [])));
         bad = λ f g rest. wrong rest;
       }

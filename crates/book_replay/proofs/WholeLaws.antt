@@ -49,10 +49,10 @@ module _ (limit : ℕ) (book numbers : List ℕ) (r : Judged) (j : JudgedAs limi
     pub whole_judged : (r.fault ≡ 40 → ⊥) → WholeJudged limit book numbers r
     whole_judged not_full =
         record {
-          fault = λ some-fault. bad_book r.fault
-              (rest_bad book r.good (block_there book r.good (let l = bad_long (j.bad some-fault not_full []) in omega (arith, l, length-append (block_at book r.good) [])))
-              j.reached.notes j.reached.right r.fault (j.bad some-fault not_full));
-          fine = λ none-bad. kept_all (j.whole none-bad);
+          fault = λ some_fault. bad_book r.fault
+              (rest_bad book r.good (block_there book r.good (let l = bad_long (j.bad some_fault not_full []) in omega (arith, l, length-append (block_at book r.good) [])))
+              j.reached.notes j.reached.right r.fault (j.bad some_fault not_full));
+          fine = λ none_bad. kept_all (j.whole none_bad);
         }
       where
         kept_all : r.good ≡ length book / 512 → (h : Replayable limit book) × (r.used ≤ limit) × (length numbers ≡ limit) × Kept book (length book / 512) numbers r.used (after h.notes)
@@ -66,13 +66,13 @@ module _ (limit : ℕ) (book numbers : List ℕ) (r : Judged) (j : JudgedAs limi
     module _ (full : r.fault ≡ 40) (later : ℕ) (rest : JudgesRest book later) where
       -- a bad block behind the one that brings a name too many
       pub whole_bad_later : (later ≡ 0 → ⊥) → WholeJudged limit book numbers (record { used = r.used; good = r.good; fault = later })
-      whole_bad_later some-fault = record { fault = λ _. bad_book later (rest.bad some-fault); fine = λ e. absurd (some-fault e) }
+      whole_bad_later some_fault = record { fault = λ _. bad_book later (rest.bad some_fault); fine = λ e. absurd (some_fault e) }
 
       -- no bad block, and a name too many
       pub whole_full : later ≡ 0 → WholeJudged limit book numbers r
       unfolding RightBlocks
-      whole_full none-bad =
-          let right = rest.whole none-bad in
+      whole_full none_bad =
+          let right = rest.whole none_bad in
           let more = block_there book r.good (let l = says_length r.good (after j.reached.notes) (block_at book r.good) (j.full full).0 (j.full full).1 in omega (arith, l)) in
           let too_many : Room limit right.0 → ⊥ = λ room. no_more limit book numbers r j (length book / 512) (omega arith) more (record { notes = right.0; right = right.1; room = room }) in
           record {
@@ -82,4 +82,4 @@ module _ (limit : ℕ) (book numbers : List ℕ) (r : Judged) (j : JudgedAs limi
 
 -- the names of a book without fault are kept
 pub kept_names : (book numbers : List ℕ) (r : Judged) → WholeJudged 64 book numbers r → r.fault ≡ 0 → AllKept book numbers r.used
-kept_names book numbers r w none-bad = let f = w.fine none-bad in record { fits = f.1; size = f.2; entries = after f.0.notes; kept = f.3 }
+kept_names book numbers r w none_bad = let f = w.fine none_bad in record { fits = f.1; size = f.2; entries = after f.0.notes; kept = f.3 }

@@ -148,8 +148,8 @@ module _ (book numbers : List ℕ) (used : ℕ) (k : AllKept book numbers used) 
   -- a table in place of the bytes that were lent, and what stands behind them stays
   pub in_area : (area s : List ℕ) → s ≡ table_bytes 64 t → s ++ drop 19968 area ≡ overlay area 0 (table_bytes 64 t)
   in_area area s e =
-      let few-names : length t ≤ 64 = omega (arith, count book numbers used k t h, k.fits) in
-      written_front 19968 area s (table_bytes 64 t) (length_table 64 t (table_bytes 64 t) (record { each = fit book numbers used k t h; room = few-names; form = refl })) e
+      let few_names : length t ≤ 64 = omega (arith, count book numbers used k t h, k.fits) in
+      written_front 19968 area s (table_bytes 64 t) (length_table 64 t (table_bytes 64 t) (record { each = fit book numbers used k t h; room = few_names; form = refl })) e
 
 -- ---- blocks in a tidied book
 

@@ -195,22 +195,22 @@ module _ (served : List ℕ) (i j : ℕ) (zone n d : List ℕ) (f : Family) (x :
         })
     by_case o (Adding.full found full e) = absurd (omega (arith, room found))
     by_case o (Adding.by_hand c found holder e) =
-        let sent-so = stays c found none holder refl in
-        subst Goes (sym e) (record { codes = AddTold.refused (inr refl) sent-so; holds = subst (λ (y : Exchange). Holds y.zone t) (sym sent-so) hs })
+        let sent_so = stays c found none holder refl in
+        subst Goes (sym e) (record { codes = AddTold.refused (inr refl) sent_so; holds = subst (λ (y : Exchange). Holds y.zone t) (sym sent_so) hs })
     by_case o (Adding.same_client c k found holder same e) =
         let w = here n hs c found in
-        let sent-so : sent z ≡ ended (name_in_use ∷ done ∷ []) _ =
+        let sent_so : sent z ≡ ended (name_in_use ∷ done ∷ []) _ =
         ap sent w.form ∙ same_sent w.before w.records w.behind w.away w.own.used c w.own.has k holder same in
         subst Goes (sym e) (record {
-          codes = AddTold.refreshed refl (ap (λ (y : Exchange). y.codes) sent-so);
-          holds = subst (λ (y : Exchange). Holds y.zone (changed n (refreshed f x) t)) (sym sent-so)
+          codes = AddTold.refreshed refl (ap (λ (y : Exchange). y.codes) sent_so);
+          holds = subst (λ (y : Exchange). Holds y.zone (changed n (refreshed f x) t)) (sym sent_so)
               (holds_changed w (refreshed f x) _ (keeps_name f (some x) c) (more_used w.before w.records w.behind w.away w.own.used c w.own.has k holder)
               (more_has w.before w.records w.behind w.away w.own.used c w.own.has k holder));
         })
     by_case o (Adding.first_wins c k found holder other zero e) =
-        let sent-so = stays c found (some k) holder other in
-        subst Goes (sym e) (record { codes = AddTold.refused (inl refl) sent-so; holds = subst (λ (y : Exchange). Holds y.zone t) (sym sent-so) hs })
-    by_case o (Adding.latest_wins c k found holder other some-policy e) = absurd (some-policy refl)
+        let sent_so = stays c found (some k) holder other in
+        subst Goes (sym e) (record { codes = AddTold.refused (inl refl) sent_so; holds = subst (λ (y : Exchange). Holds y.zone t) (sym sent_so) hs })
+    by_case o (Adding.latest_wins c k found holder other some_policy e) = absurd (some_policy refl)
 
     pub add_goes : Goes (add limit eq_bytes t n d f x 0)
     add_goes = by_case (add limit eq_bytes t n d f x 0) (add_case eq_bytes t n d f x limit 0)

@@ -10,7 +10,7 @@ use borrow.Author.Tests.{eqb-true, eqb-false}
 use Rattle.base.specs.Bytes.{eq_bytes}
 use Rattle.base.specs.Logic.{Every}
 use Rattle.name.specs.Name.{canonical}
-use Rattle.slots.specs.Effect.{deleted, hasAddress}
+use Rattle.slots.specs.Effect.{deleted, has_address}
 use Rattle.slots.specs.Entry.{address_of}
 use Rattle.slots.specs.Fields.{there}
 use Rattle.slots.specs.Form.{TableEntry}
@@ -103,12 +103,12 @@ module _ (served : List ℕ) (i j : ℕ) (zone n d : List ℕ) (f : Family) (x :
 
     -- ---- it is carried out, and the second
 
-    module _ (k : List ℕ) (holder : e.holder ≡ some k) (own : eq_bytes k d ≡ true) (there-is : is_address (address_of f e) x ≡ true) where
+    module _ (k : List ℕ) (holder : e.holder ≡ some k) (own : eq_bytes k d ≡ true) (there_is : is_address (address_of f e) x ≡ true) where
       abbrev less : List Datum
       less = less_those (this_one (address_record f) x) ds
 
       less_has : Has less (deleted f e)
-      less_has = has_less f (this_one (address_record f) x) e ds (one_only (address_record f) x) (one_all f x (address_of f e) there-is) has
+      less_has = has_less f (this_one (address_record f) x) e ds (one_only (address_record f) x) (one_all f x (address_of f e) there_is) has
 
       less_used : is_empty less ≡ false
       less_used = some_left type_dhcid k less (less_has.dhcid ∙ ap listed (deleted_holder f e ∙ holder))
@@ -118,7 +118,7 @@ module _ (served : List ℕ) (i j : ℕ) (zone n d : List ℕ) (f : Family) (x :
       first_done =
           is_done served zone its (at ds) i _ _ (scanned_one served _ (one_scanned served n inside _ (plain_address f) x))
           (remove_first_code served (at ds) n inside lower d (some k) (held (some k) holder) f x (address_of f e) set
-          ∙ ap (λ (b : Bool). cond (b && is_address (address_of f e) x) done no_such_set) own ∙ ap (λ (b : Bool). cond b done no_such_set) there-is)
+          ∙ ap (λ (b : Bool). cond (b && is_address (address_of f e) x) done no_such_set) own ∙ ap (λ (b : Bool). cond b done no_such_set) there_is)
           ∙ ap (out done) (one_updated _ (at ds) (at less) (update_one n lower (at ds) _ _ ∙ without_node n away _ ds r ∙ ap (◌++◌ p) (used_node n less r less_used)))
 
       second_sent : (c : ℕ) (w : Zone) → carried_out served m₂ (at less) ≡ out c w → sent (at ds) ≡ ended (done ∷ c ∷ []) w
@@ -146,7 +146,7 @@ module _ (served : List ℕ) (i j : ℕ) (zone n d : List ℕ) (f : Family) (x :
           second_refused (remove_second_aaaa served (at less) n inside lower d (a_left none g) (aaaa_left (some y) h))
       kept_by none none g h s = absurd (false≢true s)
 
-      kept_sent : hasAddress (deleted f e) ≡ true → sent (at ds) ≡ ended (done ∷ set_stands ∷ []) (at less)
+      kept_sent : has_address (deleted f e) ≡ true → sent (at ds) ≡ ended (done ∷ set_stands ∷ []) (at less)
       kept_sent s = kept_by (deleted f e).a (deleted f e).aaaa refl refl s
 
       -- no address is left
@@ -167,7 +167,7 @@ module _ (served : List ℕ) (i j : ℕ) (zone n d : List ℕ) (f : Family) (x :
           ∙ ap (out done) (one_updated _ (at less) (p ++ r)
           (update_one n lower (at less) _ _ ∙ without_node n away _ less r ∙ ap (λ (c : List Datum). p ++ node_of n c r) (emptied g h))))
 
-      gone_sent : hasAddress (deleted f e) ≡ false → sent (at ds) ≡ ended (done ∷ done ∷ []) (p ++ r)
+      gone_sent : has_address (deleted f e) ≡ false → sent (at ds) ≡ ended (done ∷ done ∷ []) (p ++ r)
       gone_sent s = gone_by (deleted f e).a (deleted f e).aaaa refl refl s
 
   -- ---- the second message, on any zone
@@ -214,36 +214,36 @@ module _ (served : List ℕ) (i j : ℕ) (zone n d : List ℕ) (f : Family) (x :
         subst (λ (y : Zone). sent y ≡ ended (no_such_set ∷ []) y) (sym w.form) (refused_sent w.before w.records w.behind w.away e w.own.has h holder s)
 
     still : sent z ≡ ended (no_such_set ∷ []) z → Holds (sent z).zone t
-    still sent-so = subst (λ (y : Exchange). Holds y.zone t) (sym sent-so) hs
+    still sent_so = subst (λ (y : Exchange). Holds y.zone t) (sym sent_so) hs
 
     by_case : (o : StepOutcome (List ℕ)) → Removing eq_bytes t n d f x o → Goes o
     by_case o (Removing.not_held found e) =
-        let sent-so = not_held z (nowhere n hs found) in
-        subst Goes (sym e) (record { codes = RemoveTold.refused (inl refl) sent-so; holds = still sent-so })
+        let sent_so = not_held z (nowhere n hs found) in
+        subst Goes (sym e) (record { codes = RemoveTold.refused (inl refl) sent_so; holds = still sent_so })
     by_case o (Removing.by_hand c found holder e) =
-        let sent-so = stays c found none holder refl in
-        subst Goes (sym e) (record { codes = RemoveTold.refused (inr (inl refl)) sent-so; holds = still sent-so })
+        let sent_so = stays c found none holder refl in
+        subst Goes (sym e) (record { codes = RemoveTold.refused (inr (inl refl)) sent_so; holds = still sent_so })
     by_case o (Removing.another c k found holder other e) =
-        let sent-so = stays c found (some k) holder (ap (λ (b : Bool). b && is_address (address_of f c) x) other) in
-        subst Goes (sym e) (record { codes = RemoveTold.refused (inr (inr (inl refl))) sent-so; holds = still sent-so })
+        let sent_so = stays c found (some k) holder (ap (λ (b : Bool). b && is_address (address_of f c) x) other) in
+        subst Goes (sym e) (record { codes = RemoveTold.refused (inr (inr (inl refl))) sent_so; holds = still sent_so })
     by_case o (Removing.differs c k found holder same no_such e) =
-        let sent-so = stays c found (some k) holder (ap (λ (b : Bool). b && is_address (address_of f c) x) same ∙ no_such) in
-        subst Goes (sym e) (record { codes = RemoveTold.refused (inr (inr (inr refl))) sent-so; holds = still sent-so })
+        let sent_so = stays c found (some k) holder (ap (λ (b : Bool). b && is_address (address_of f c) x) same ∙ no_such) in
+        subst Goes (sym e) (record { codes = RemoveTold.refused (inr (inr (inr refl))) sent_so; holds = still sent_so })
     by_case o (Removing.kept c k found holder same its_own left e) =
         let w = here n hs c found in
-        let sent-so : sent z ≡ ended (done ∷ set_stands ∷ []) _ = ap sent w.form ∙ kept_sent w.before w.records w.behind w.away c w.own.has k holder same its_own left in
+        let sent_so : sent z ≡ ended (done ∷ set_stands ∷ []) _ = ap sent w.form ∙ kept_sent w.before w.records w.behind w.away c w.own.has k holder same its_own left in
         subst Goes (sym e) (record {
-          codes = RemoveTold.stays found left refl (ap (λ (y : Exchange). y.codes) sent-so);
-          holds = subst (λ (y : Exchange). Holds y.zone (changed n (deleted f) t)) (sym sent-so)
+          codes = RemoveTold.stays found left refl (ap (λ (y : Exchange). y.codes) sent_so);
+          holds = subst (λ (y : Exchange). Holds y.zone (changed n (deleted f) t)) (sym sent_so)
               (holds_changed w (deleted f) _ (keeps_name f none c) (less_used w.before w.records w.behind w.away c w.own.has k holder same its_own)
               (less_has w.before w.records w.behind w.away c w.own.has k holder same its_own));
         })
     by_case o (Removing.gone c k found holder same its_own left e) =
         let w = here n hs c found in
-        let sent-so : sent z ≡ ended (done ∷ done ∷ []) _ = ap sent w.form ∙ gone_sent w.before w.records w.behind w.away c w.own.has k holder same its_own left in
+        let sent_so : sent z ≡ ended (done ∷ done ∷ []) _ = ap sent w.form ∙ gone_sent w.before w.records w.behind w.away c w.own.has k holder same its_own left in
         subst Goes (sym e) (record {
-          codes = RemoveTold.gone found left refl (ap (λ (y : Exchange). y.codes) sent-so);
-          holds = subst (λ (y : Exchange). Holds y.zone (without n t)) (sym sent-so) (holds_without w);
+          codes = RemoveTold.gone found left refl (ap (λ (y : Exchange). y.codes) sent_so);
+          holds = subst (λ (y : Exchange). Holds y.zone (without n t)) (sym sent_so) (holds_without w);
         })
 
     pub remove_goes : Goes (remove eq_bytes t n d f x)

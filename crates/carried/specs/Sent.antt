@@ -9,7 +9,7 @@ use Rattle.base.specs.Refusal.{held_by_another, kept_by_hand, table_full, name_n
 use Rattle.base.specs.declared.Answer.{Answer}
 use Rattle.base.specs.declared.Answer.TheVariants.{Accepted, Refused}
 use Rattle.name.specs.Name.{canonical}
-use Rattle.slots.specs.Effect.{deleted, hasAddress}
+use Rattle.slots.specs.Effect.{deleted, has_address}
 use Rattle.slots.specs.Entry.{family_of, address_size}
 use Rattle.slots.specs.Form.{TableEntry}
 use Rattle.slots.specs.declared.Family.{Family}
@@ -101,8 +101,8 @@ pub data AddTold (n : List ℕ) (t : List TableEntry) (z : Zone) (r : Answer) (x
 
 -- 0 and 0: no address is left, and the name goes; 0 and 7: the other family's address stands, and the name with it; 8: refused, and the zone stays
 pub data RemoveTold (n : List ℕ) (f : Family) (t : List TableEntry) (z : Zone) (r : Answer) (x : Exchange) : Type 0 where
-  gone : {e : TableEntry} → find n t ≡ some e → hasAddress (deleted f e) ≡ false → r ≡ Accepted 0 → x.codes ≡ done ∷ done ∷ [] → RemoveTold n f t z r x
-  stays : {e : TableEntry} → find n t ≡ some e → hasAddress (deleted f e) ≡ true → r ≡ Accepted 0 → x.codes ≡ done ∷ set_stands ∷ [] → RemoveTold n f t z r x
+  gone : {e : TableEntry} → find n t ≡ some e → has_address (deleted f e) ≡ false → r ≡ Accepted 0 → x.codes ≡ done ∷ done ∷ [] → RemoveTold n f t z r x
+  stays : {e : TableEntry} → find n t ≡ some e → has_address (deleted f e) ≡ true → r ≡ Accepted 0 → x.codes ≡ done ∷ set_stands ∷ [] → RemoveTold n f t z r x
   refused : (r ≡ Refused name_not_held 0) ⊎ (r ≡ Refused kept_by_hand 0) ⊎ (r ≡ Refused held_by_another 0) ⊎ (r ≡ Refused address_differs 0)
       → x ≡ ended (no_such_set ∷ []) z → RemoveTold n f t z r x
 

@@ -184,9 +184,9 @@ module _ (w : List ℕ) (r : DhcidWords) where
   unfolding joined
   first_base64 s other fresh step = after_base64 (w ∷ []) r w [] refl other (subst (λ (t : List ℕ). Text64 t r) (sym (append-nil w)) (step [] (fresh_base64 s fresh)))
 
-  pub thirty_five : w ≡ thirty_five → Fresh 3 r → After (marker ∷ w ∷ []) r
+  pub thirty_five_lem : w ≡ thirty_five → Fresh 3 r → After (marker ∷ w ∷ []) r
   unfolding joined
-  thirty_five m fresh = after_digits (marker ∷ w ∷ []) r [] (ap (λ (x : List ℕ). marker ∷ x ∷ []) m) Every.none (fresh_digits r fresh)
+  thirty_five_lem m fresh = after_digits (marker ∷ w ∷ []) r [] (ap (λ (x : List ℕ). marker ∷ x ∷ []) m) Every.none (fresh_digits r fresh)
 
   pub other_length : (w ≡ thirty_five → ⊥) → Fresh 4 r → After (marker ∷ w ∷ []) r
   other_length other fresh =

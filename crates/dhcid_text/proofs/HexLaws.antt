@@ -52,11 +52,15 @@ pub length_pairs : (ps : List (List ℕ)) (bs : List ℕ) → Pairwise HexByte p
 unfolding joined
 length_pairs [] [] Pairwise.none = refl
 length_pairs (p ∷ ps) (b ∷ bs) (Pairwise.more h hs) = omega (arith, length-append p (joined ps), h.two, length_pairs ps bs hs)
+length_pairs [] (b ∷ bs) x'' = elim x'' [ ]
+length_pairs (p ∷ ps) [] x3 = elim x3 [ ]
 
 pub digits_pairs : (ps : List (List ℕ)) (bs : List ℕ) → Pairwise HexByte ps bs → Every (λ x. digit_value x < 16) (joined ps)
 unfolding joined
 digits_pairs [] [] Pairwise.none = Every.none
 digits_pairs (p ∷ ps) (b ∷ bs) (Pairwise.more h hs) = every_append p (joined ps) h.hexadecimal.digits (digits_pairs ps bs hs)
+digits_pairs [] (b ∷ bs) x'' = elim x'' [ ]
+digits_pairs (p ∷ ps) [] x3 = elim x3 [ ]
 
 -- the same digits are the same bytes
 pub same_pairs : (ps qs : List (List ℕ)) (bs cs : List ℕ) → Pairwise HexByte ps bs → Pairwise HexByte qs cs → joined ps ≡ joined qs → bs ≡ cs
@@ -67,3 +71,11 @@ same_pairs (p ∷ ps) [] (b ∷ bs) [] (Pairwise.more h hs) Pairwise.none e = ab
 same_pairs (p ∷ ps) (q ∷ qs) (b ∷ bs) (c ∷ cs) (Pairwise.more h hs) (Pairwise.more k ks) e =
     let parts = append_split (h.two ∙ sym k.two) e in
     ap₂ ◌∷◌ (sym h.hexadecimal.number ∙ ap (value 16 0) parts.0 ∙ k.hexadecimal.number) (same_pairs ps qs bs cs hs ks parts.1)
+same_pairs [] [] [] (c ∷ cs) _ x13 e = elim x13 [ ]
+same_pairs [] [] (b ∷ bs) cs x10 _ e = elim x10 [ ]
+same_pairs [] (q ∷ qs) [] [] _ x12 e = elim x12 [ ]
+same_pairs [] (q ∷ qs) (b ∷ bs) cs x10 _ e = elim x10 [ ]
+same_pairs (p ∷ ps) [] [] cs x8 _ e = elim x8 [ ]
+same_pairs (p ∷ ps) [] (b ∷ bs) (c ∷ cs) _ x12 e = elim x12 [ ]
+same_pairs (p ∷ ps) (q ∷ qs) [] cs x9 _ e = elim x9 [ ]
+same_pairs (p ∷ ps) (q ∷ qs) (b ∷ bs) [] _ x13 e = elim x13 [ ]

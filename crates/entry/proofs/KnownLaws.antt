@@ -97,8 +97,8 @@ module _ (t : List ℕ) (at : ℕ) (some : at < length t) where
         let place : next ≡ at + (length e + 1) = omega (arith, long) in
         ap (λ (i : ℕ). drop i t) place ∙ sym (drop-drop (length e + 1) at t) ∙ ap (drop (length e + 1)) cut ∙ drop-append-add e (10 ∷ u) 1
 
-    at_line : EntryIs t at (entry_at t at)
-    at_line =
+    at_line_lem : EntryIs t at (entry_at t at)
+    at_line_lem =
         let laid : scan plain outside (drop at t) ≡ record { words = ws; ending = at_line u } = ap (scan plain outside) cut ∙ line_scan u w in
         let first : begins is_word_byte (drop at t) ≡ begins is_word_byte e = ap (begins is_word_byte) cut ∙ line_begins e u in
         let c : content t at ≡ content_of (begins is_word_byte e) ws = λ i. content_of (first i) (laid i).words in
@@ -111,7 +111,7 @@ module _ (t : List ℕ) (at : ℕ) (some : at < length t) where
 
   laid_is : LaidOut outside (drop at t) → EntryIs t at (entry_at t at)
   laid_is (to_end ws w) = with_text ws w
-  laid_is (to_line e u ws cut w) = at_line e u ws cut w
+  laid_is (to_line e u ws cut w) = at_line_lem e u ws cut w
   laid_is (to_fault f) = subst (EntryIs t at) (by_parts t at _ at_fault refl (fault_scan f)) (misshapen (fault_scan f))
 
 -- an entry before the text's end, as it is read, is known

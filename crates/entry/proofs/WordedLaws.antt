@@ -46,7 +46,7 @@ module _ (t : List ℕ) (at start end : ℕ) (d : Bool) (w : WordAt t at false s
   unfolding faulty_from
   bad_first e = word_fault t at entry_owner _ (words_are ∙ not_first owner (words_at t end d) first e) ends_are
 
-  module _ (n : List ℕ) (is-first : first ≡ true) (named : owner_of owner ≡ some n) (h : Head) (head : HeadAt head_of t end d h) where
+  module _ (n : List ℕ) (is_first : first ≡ true) (named : owner_of owner ≡ some n) (h : Head) (head : HeadAt head_of t end d h) where
     -- ---- the head
 
     head_ends : ends t at ≡ (scan plain (depth_of h.inside) (drop h.at t)).ending
@@ -62,7 +62,7 @@ module _ (t : List ℕ) (at start end : ℕ) (d : Bool) (w : WordAt t at false s
     unfolding faulty_from
     bad_type e =
         let none_there : head_of (words_at t end d) ≡ none = head.found ∙ ap (with_rest (words_at t h.at h.inside)) (no_type head.type (sym head.is ∙ e)) in
-        word_fault t at entry_type _ (words_are ∙ no_head owner (words_at t end d) first n is-first named none_there) head_ends
+        word_fault t at entry_type _ (words_are ∙ no_head owner (words_at t end d) first n is_first named none_there) head_ends
 
     some_type : (k : Option RecordType) → (type_number_if k ≡ 0 → ⊥) → (j : RecordType) × (k ≡ some j)
     some_type none e = absurd (e refl)
@@ -83,7 +83,7 @@ module _ (t : List ℕ) (at start end : ℕ) (d : Bool) (w : WordAt t at false s
       -- the content hangs on the data, and on whether words are left after them
       by_data : content t at ≡ by_rdata n k (if_none (words_at t r.at r.inside) rdata.value)
       by_data =
-          words_are ∙ with_head owner (words_at t end d) first n is-first named k (words_at t h.at h.inside) (head.found ∙ ap (with_rest (words_at t h.at h.inside)) kind.1)
+          words_are ∙ with_head owner (words_at t end d) first n is_first named k (words_at t h.at h.inside) (head.found ∙ ap (with_rest (words_at t h.at h.inside)) kind.1)
           ∙ ap (by_rdata n k)
           (sym (by_number k (words_at t h.at h.inside)) ∙ ap (λ (m : ℕ). rdata_for m (words_at t h.at h.inside)) (sym numbered) ∙ rdata.found)
 
@@ -117,7 +117,7 @@ module _ (t : List ℕ) (at start end : ℕ) (d : Bool) (w : WordAt t at false s
       pub shape_left : scan plain (depth_of r.inside) (drop r.at t) ≡ record { words = []; ending = at_fault } → fault_before entry_shape (length t) ≡ entry_at t at
       shape_left e = by_parts t at _ at_fault refl (data_ends ∙ ap (λ (l : Laid). l.ending) e)
 
-      module _ (name rdata35 : List ℕ) (len : ℕ) (padded-name : name ≡ padded n) (long : len ≡ length n) (found : r.found ≡ true) (bytes : rdata35 ≡ r.bytes) where
+      module _ (name rdata35 : List ℕ) (len : ℕ) (padded_name : name ≡ padded n) (long : len ≡ length n) (found : r.found ≡ true) (bytes : rdata35 ≡ r.bytes) where
         value : (bs : List ℕ) × (rdata.value ≡ some bs) × (r.bytes ≡ zero_filled bs)
         value = is_held rdata.value rdata.is found
 
@@ -134,7 +134,7 @@ module _ (t : List ℕ) (at start end : ℕ) (d : Bool) (w : WordAt t at false s
         is_it next =
             λ i. record {
               content = TheVariants.Record;
-              «record» = record { owner = padded-name i; owner_len = long i; rtype = numbered i; rdata = (bytes ∙ value.2) i };
+              «record» = record { owner = padded_name i; owner_len = long i; rtype = numbered i; rdata = (bytes ∙ value.2) i };
               next = next;
             }
 

@@ -19,7 +19,7 @@ use Rattle.address.specs.Forms.{octets, groups}
 use Rattle.address.proofs.AddressLaws.{octets_usable, groups_usable, a_fields, fields_a, aaaa_fields, fields_aaaa}
 use Rattle.text.proofs.FieldLaws.{From, fields_from, from_is_fields}
 use Rattle.grammar.specs.Deciding.{provided}
-use Rattle.grammar.specs.AddressReader.{isAllowed, fields_of, numbers_of, a_of, aaaa_of}
+use Rattle.grammar.specs.AddressReader.{is_allowed, fields_of, numbers_of, a_of, aaaa_of}
 use Rattle.grammar.proofs.Deciding.{Reads, provided_is}
 
 -- the test of a leading zero: none in a number of more than one digit, unless the form has such
@@ -32,12 +32,12 @@ module _ (f : Form) where
   -- ---- the test of a digit
 
   module _ (v n d : ℕ) where
-    allowed_test : Allowed f v n d → isAllowed f v n d ≡ true
+    allowed_test : Allowed f v n d → is_allowed f v n d ≡ true
     allowed_test a =
         let small : leb (v * f.base + d) f.greatest ≡ true = le-leb (v * f.base + d) f.greatest a.small in
         λ i. lt-ltb d f.base a.digit i && lt-ltb n f.most a.room i && no_lead v n f.leading_zeros a.leading i && small i
 
-    test_allowed : isAllowed f v n d ≡ true → Allowed f v n d
+    test_allowed : is_allowed f v n d ≡ true → Allowed f v n d
     test_allowed e =
         let digit : Bool = ltb d f.base in
         let room : Bool = ltb n f.most in
@@ -48,7 +48,7 @@ module _ (f : Form) where
         record {
           digit = ltb-true d f.base (and_left digit room two);
           room = ltb-true n f.most (and_right digit room two);
-          leading = λ z some-digit.
+          leading = λ z some_digit.
               leb-true 1 v (sym (λ i. z i || ne_eqb n 0 (omega arith) i || leb 1 v) ∙ and_right (digit && room) leading three);
           small = leb-true (v * f.base + d) f.greatest (and_right (digit && room && leading) small e);
         }
@@ -71,7 +71,7 @@ module _ (f : Form) where
         let tail = (map-eq-some_iff (λ (ns : List ℕ). v ∷ ns) (fields_of f 0 0 t)).0 through.1 in
         subst (From f v n (x ∷ t)) tail.2 (From.next e (leb-true 1 n through.0) (rest 0 0 tail.0 tail.1))
 
-    was_digit : (x ≡ f.separator → ⊥) → provided (isAllowed f v n (digit_value x)) (fields_of f (v * f.base + digit_value x) (n + 1) t) ≡ some ns
+    was_digit : (x ≡ f.separator → ⊥) → provided (is_allowed f v n (digit_value x)) (fields_of f (v * f.base + digit_value x) (n + 1) t) ≡ some ns
         → From f v n (x ∷ t) ns
     was_digit ne q =
         let through = provided_is q in

@@ -55,7 +55,7 @@ passed_spells : (w : List ℕ) → is_owner w ≡ true → (n : List ℕ) × Spe
 passed_spells w e =
     let two = and_left (leb (length w) 254 && leb 1 (lead w)) (valid w) e in
     let short : length w ≤ 254 = leb-true (length w) 254 (and_left (leb (length w) 254) (leb 1 (lead w)) two) in
-    let lead-some : 1 ≤ lead w = leb-true 1 (lead w) (and_right (leb (length w) 254) (leb 1 (lead w)) two) in
+    let lead_some : 1 ≤ lead w = leb-true 1 (lead w) (and_right (leb (length w) 254) (leb 1 (lead w)) two) in
     let r = valid_rest w (and_right (leb (length w) 254 && leb 1 (lead w)) (valid w) e) in
     let ls : List (List ℕ) = r.label ∷ r.labels in
     let first : Label r.label = record { some = omega (arith, r.long); short = r.short; bytes = r.bytes } in

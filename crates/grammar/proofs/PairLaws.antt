@@ -11,7 +11,7 @@ use borrow.Author.Tests.{eqb-true}
 use Rattle.base.specs.Bytes.{ascii}
 use Rattle.base.specs.Logic.{Every}
 use Rattle.base.proofs.Lists.{every_right}
-use Rattle.grammar.specs.Listing.{Kind, blank, lineEnd, opening, closing, semicolon, wordByte, notAllowed, kind_of, is_comment_kind, is_word_byte, is_comment_byte, begins, LongestRun, Depth, outside, inside, Piece, a_blank, line_inside, opens, closes, a_comment, a_word, Words, Entries}
+use Rattle.grammar.specs.Listing.{Kind, blank, line_end, opening, closing, semicolon, word_byte, not_allowed, kind_of, is_comment_kind, is_word_byte, is_comment_byte, begins, LongestRun, Depth, outside, inside, Piece, a_blank, line_inside, opens, closes, a_comment, a_word, Words, Entries}
 use Rattle.grammar.specs.Faults.{ShapeFault}
 use Rattle.grammar.specs.Whole.{AllowedByte, open_after, uncommented, parentheses, pairs, Whole}
 use Rattle.grammar.proofs.BytesLaws.{Of, of_kind_lem, comment_ends, word_of, words_allowed, entries_allowed}
@@ -27,8 +27,8 @@ quiet_byte : (b : ℕ) (t : List ℕ) → eqb b 59 ≡ false → eqb b 40 ≡ fa
 unfolding uncommented parentheses
 quiet_byte b t s o c = rw s (rw (o, c) refl)
 
-word_byte : (b : ℕ) (t : List ℕ) → Of wordByte b → shown (b ∷ t) ≡ shown t
-word_byte b t h = quiet_byte b t h.3 h.1 h.2
+word_byte_lem : (b : ℕ) (t : List ℕ) → Of word_byte b → shown (b ∷ t) ≡ shown t
+word_byte_lem b t h = quiet_byte b t h.3 h.1 h.2
 
 blank_byte : (b : ℕ) (t : List ℕ) → Of blank b → shown (b ∷ t) ≡ shown t
 unfolding uncommented parentheses
@@ -54,7 +54,7 @@ semicolon_byte b t e = ap (λ (x : ℕ). shown (x ∷ t)) e
 
 word_run : (w rest : List ℕ) → Every (λ b. is_word_byte b ≡ true) w → shown (w ++ rest) ≡ shown rest
 word_run [] rest h = refl
-word_run (b ∷ w) rest (Every.more hb h) = word_byte b (w ++ rest) (word_of b hb) ∙ word_run w rest h
+word_run (b ∷ w) rest (Every.more hb h) = word_byte_lem b (w ++ rest) (word_of b hb) ∙ word_run w rest h
 
 -- a byte that a comment may hold does not end it
 comment_byte : (b : ℕ) (t : List ℕ) → is_comment_byte b ≡ true → uncommented true (b ∷ t) ≡ uncommented true t

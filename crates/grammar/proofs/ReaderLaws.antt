@@ -233,7 +233,7 @@ checked {limit} {t} (Checked.whole h s) = rw (le-leb (length t) limit h, comes_r
 pub answered : {limit places : ℕ} {t : List ℕ} {o : Outcome} → Answered limit places t o → answer limit places t ≡ o
 unfolding answer
 answered (Answered.refused_first c) = rw (checked c)
-answered {places = places} (Answered.Short-row {rs} c h) = rw (checked c, lt-leb (length rs) places h)
+answered {places = places} (Answered.short_row {rs} c h) = rw (checked c, lt-leb (length rs) places h)
 answered {places = places} (Answered.in_row {rs} c h) = rw (checked c, le-leb (length rs) places h)
 
 outcome_checked : (limit : ℕ) (t : List ℕ) → length t ≤ limit → {v : Verdict} → Comes t v → Checked limit t (outcome v)
@@ -254,7 +254,7 @@ answers limit places t = go (check limit t) (checks limit t)
   where
     room : (rs : List ResourceRecord) → Checked limit t (accepted rs) → (b : Bool) → leb (length rs) places ≡ b → Answered limit places t (cond b (accepted rs) (refused row_short 0))
     room rs c true h = Answered.in_row c (leb-true (length rs) places h)
-    room rs c false h = Answered.Short-row c (leb-false (length rs) places h)
+    room rs c false h = Answered.short_row c (leb-false (length rs) places h)
 
     go : (o : Outcome) → Checked limit t o → Answered limit places t (in_places places o)
     go (accepted rs) c = room rs c (leb (length rs) places) refl

@@ -6,7 +6,7 @@ use mathlib.Core.List.{List, [], ◌∷◌, ◌++◌, append_assoc}
 use native.Mathlib.Omega.{arith}
 use lib.ListN.{length}
 use Rattle.base.specs.Logic.{Every}
-use Rattle.grammar.specs.Listing.{Kind, blank, lineEnd, opening, closing, semicolon, wordByte, notAllowed, kind_of, is_word_kind, is_comment_kind, is_word_byte, is_comment_byte, begins, LongestRun, Depth, outside, inside, Piece, a_blank, line_inside, opens, closes, a_comment, a_word, Words}
+use Rattle.grammar.specs.Listing.{Kind, blank, line_end, opening, closing, semicolon, word_byte, not_allowed, kind_of, is_word_kind, is_comment_kind, is_word_byte, is_comment_byte, begins, LongestRun, Depth, outside, inside, Piece, a_blank, line_inside, opens, closes, a_comment, a_word, Words}
 use Rattle.grammar.specs.Faults.{ShapeFault}
 use Rattle.grammar.specs.Scan.{Mode, plain, comment, letter, at_end, at_line, at_fault, Laid, act, depth_after, mode_after, put, scan, preceded}
 use Rattle.grammar.proofs.BytesLaws.{of_kind_lem}
@@ -19,23 +19,23 @@ byte_scan m d b t k e = rw e
 
 -- in a comment a byte that may stand there is passed over
 comment_byte : (d : Depth) (b : ℕ) (t : List ℕ) (k : Kind) → kind_of b ≡ k → is_comment_kind k ≡ true → scan comment d (b ∷ t) ≡ scan comment d t
-comment_byte d b t wordByte e c = byte_scan comment d b t wordByte e
+comment_byte d b t word_byte e c = byte_scan comment d b t word_byte e
 comment_byte d b t blank e c = byte_scan comment d b t blank e
-comment_byte d b t lineEnd e c = absurd (false≢true c)
+comment_byte d b t line_end e c = absurd (false≢true c)
 comment_byte d b t opening e c = byte_scan comment d b t opening e
 comment_byte d b t closing e c = byte_scan comment d b t closing e
 comment_byte d b t semicolon e c = byte_scan comment d b t semicolon e
-comment_byte d b t notAllowed e c = absurd (false≢true c)
+comment_byte d b t not_allowed e c = absurd (false≢true c)
 
 -- at any other byte the comment is over
 comment_over_byte : (d : Depth) (b : ℕ) (t : List ℕ) (k : Kind) → kind_of b ≡ k → is_comment_kind k ≡ false → scan comment d (b ∷ t) ≡ scan plain d (b ∷ t)
-comment_over_byte d b t wordByte e c = absurd (true≢false c)
+comment_over_byte d b t word_byte e c = absurd (true≢false c)
 comment_over_byte d b t blank e c = absurd (true≢false c)
-comment_over_byte d b t lineEnd e c = byte_scan comment d b t lineEnd e ∙ sym (byte_scan plain d b t lineEnd e)
+comment_over_byte d b t line_end e c = byte_scan comment d b t line_end e ∙ sym (byte_scan plain d b t line_end e)
 comment_over_byte d b t opening e c = absurd (true≢false c)
 comment_over_byte d b t closing e c = absurd (true≢false c)
 comment_over_byte d b t semicolon e c = absurd (true≢false c)
-comment_over_byte d b t notAllowed e c = byte_scan comment d b t notAllowed e ∙ sym (byte_scan plain d b t notAllowed e)
+comment_over_byte d b t not_allowed e c = byte_scan comment d b t not_allowed e ∙ sym (byte_scan plain d b t not_allowed e)
 
 comment_over : (d : Depth) (t : List ℕ) → begins is_comment_byte t ≡ false → scan comment d t ≡ scan plain d t
 unfolding scan
@@ -46,20 +46,20 @@ comment_run : (d : Depth) (c rest : List ℕ) → Every (λ b. is_comment_byte b
 comment_run d [] rest h s = comment_over d rest s
 comment_run d (b ∷ c) rest (Every.more hb h) s = comment_byte d b (c ++ rest) (kind_of b) refl hb ∙ comment_run d c rest h s
 
-word_byte : (d : Depth) (b : ℕ) (t : List ℕ) (k : Kind) → kind_of b ≡ k → is_word_kind k ≡ true → scan plain d (b ∷ t) ≡ put letter b t (scan plain d t)
-word_byte d b t wordByte e c = byte_scan plain d b t wordByte e
-word_byte d b t blank e c = absurd (false≢true c)
-word_byte d b t lineEnd e c = absurd (false≢true c)
-word_byte d b t opening e c = absurd (false≢true c)
-word_byte d b t closing e c = absurd (false≢true c)
-word_byte d b t semicolon e c = absurd (false≢true c)
-word_byte d b t notAllowed e c = absurd (false≢true c)
+word_byte_lem : (d : Depth) (b : ℕ) (t : List ℕ) (k : Kind) → kind_of b ≡ k → is_word_kind k ≡ true → scan plain d (b ∷ t) ≡ put letter b t (scan plain d t)
+word_byte_lem d b t word_byte e c = byte_scan plain d b t word_byte e
+word_byte_lem d b t blank e c = absurd (false≢true c)
+word_byte_lem d b t line_end e c = absurd (false≢true c)
+word_byte_lem d b t opening e c = absurd (false≢true c)
+word_byte_lem d b t closing e c = absurd (false≢true c)
+word_byte_lem d b t semicolon e c = absurd (false≢true c)
+word_byte_lem d b t not_allowed e c = absurd (false≢true c)
 
 -- ---- one piece
 
 word_run : (d : Depth) (b : ℕ) (w rest : List ℕ) → Every (λ b. is_word_byte b ≡ true) (b ∷ w) → begins is_word_byte rest ≡ false
     → scan plain d (b ∷ w ++ rest) ≡ preceded ((b ∷ w) ∷ []) (scan plain d rest)
-word_run d b [] rest (Every.more hb h) s = word_byte d b rest (kind_of b) refl hb ∙ rw s
+word_run d b [] rest (Every.more hb h) s = word_byte_lem d b rest (kind_of b) refl hb ∙ rw s
 word_run d b (y ∷ w) rest (Every.more hb (Every.more hy h)) s =
     word_byte d b (y ∷ w ++ rest) (kind_of b) refl hb ∙ rw (word_run d y w rest (Every.more hy h) s, hy)
 
@@ -112,7 +112,7 @@ module _ (p : ℕ → Bool) (x : ℕ) (u : List ℕ) (stops : p x ≡ false) whe
   run_cut {w = w} e q r = r.cut ∙ ap (λ (l : List ℕ). w ++ l) q ∙ sym (append_assoc w e (x ∷ u))
 
 -- 10 is the one byte that ends a line
-line_kind : kind_of 10 ≡ lineEnd
+line_kind : kind_of 10 ≡ line_end
 unfolding kind_of
 line_kind = refl
 
@@ -131,7 +131,7 @@ piece_on u (a_comment k r) = a_comment k (run_on is_comment_byte 10 u no_comment
 piece_on u (a_word r) = a_word (run_on is_word_byte 10 u no_word r)
 
 pub line_scan : {d : Depth} {e : List ℕ} {ws : List (List ℕ)} (u : List ℕ) → Words d e ws → scan plain d (e ++ 10 ∷ u) ≡ record { words = ws; ending = at_line u }
-line_scan u Words.at_end = byte_scan plain outside 10 u lineEnd line_kind
+line_scan u Words.at_end = byte_scan plain outside 10 u line_end line_kind
 line_scan u (Words.more {vs = vs} p w e) = piece_scan (piece_on u p) ∙ ap (preceded vs) (line_scan u w) ∙ rw e
 
 -- an entry begins as it does with a 10 after it
@@ -191,17 +191,17 @@ longest_run p (b ∷ t) = go (p b) refl (longest_run p t)
 
 module _ (b : ℕ) (t : List ℕ) (shorter : (d : Depth) (u : List ℕ) → length u ≤ length t → LaidOut d u) where
   laid_byte : (d : Depth) (k : Kind) → kind_of b ≡ k → LaidOut d (b ∷ t)
-  laid_byte d wordByte e =
+  laid_byte d word_byte e =
       let r = longest_run is_word_byte t in piece_before (a_word (run_more is_word_byte b (ap is_word_kind e) r.is)) (shorter d r.rest r.shorter)
   laid_byte d blank e = piece_before (a_blank e) (shorter d t (omega arith))
-  laid_byte outside lineEnd e = to_line [] t [] (ap (λ (x : ℕ). x ∷ t) (of_kind_lem b e)) Words.at_end
-  laid_byte inside lineEnd e = piece_before (line_inside e) (shorter inside t (omega arith))
+  laid_byte outside line_end e = to_line [] t [] (ap (λ (x : ℕ). x ∷ t) (of_kind_lem b e)) Words.at_end
+  laid_byte inside line_end e = piece_before (line_inside e) (shorter inside t (omega arith))
   laid_byte outside opening e = piece_before (opens e) (shorter inside t (omega arith))
   laid_byte inside opening e = to_fault (ShapeFault.nested e)
   laid_byte outside closing e = to_fault (ShapeFault.stray e)
   laid_byte inside closing e = piece_before (closes e) (shorter outside t (omega arith))
   laid_byte d semicolon e = let r = longest_run is_comment_byte t in piece_before (a_comment e r.is) (shorter d r.rest r.shorter)
-  laid_byte d notAllowed e = to_fault (ShapeFault.not_allowed e)
+  laid_byte d not_allowed e = to_fault (ShapeFault.not_allowed e)
 
 laid_text : (d : Depth) (t : List ℕ) → ((d : Depth) (u : List ℕ) → length u < length t → LaidOut d u) → LaidOut d t
 laid_text outside [] shorter = to_end [] Words.at_end

@@ -11,8 +11,8 @@ use Rattle.grammar.specs.Deciding.{provided}
 
 module _ (f : Form) where
   -- the test of text's Allowed: a field with the number v and n digits so far may have a digit of value d more
-  abbrev pub isAllowed : ℕ → ℕ → ℕ → Bool
-  isAllowed v n d = ltb d f.base && ltb n f.most && (f.leading_zeros || eqb n 0 || leb 1 v) && leb (v * f.base + d) f.greatest
+  abbrev pub is_allowed : ℕ → ℕ → ℕ → Bool
+  is_allowed v n d = ltb d f.base && ltb n f.most && (f.leading_zeros || eqb n 0 || leb 1 v) && leb (v * f.base + d) f.greatest
 
   -- the numbers that a text goes on to, if it does, from the middle of a field with the number v of n digits: From as a function. Of the two
   -- answers that are bound by `let` only the one that the byte asks for is computed
@@ -21,7 +21,7 @@ module _ (f : Form) where
   fields_of v n (x ∷ t) =
       let next = map (λ (ns : List ℕ). v ∷ ns) (fields_of 0 0 t) in
       let further = fields_of (v * f.base + digit_value x) (n + 1) t in
-      cond (eqb x f.separator) (provided (leb 1 n) next) (provided (isAllowed v n (digit_value x)) further)
+      cond (eqb x f.separator) (provided (leb 1 n) next) (provided (is_allowed v n (digit_value x)) further)
 
   -- the numbers that a word is, if it is as many of them as the form wants: Fields as a function
   unfoldable pub numbers_of : List ℕ → Option (List ℕ)

@@ -3,7 +3,7 @@
 -- refused exactly if it spells no list, with one number at one offset, is a theorem (proofs/Theorems.antt, spelled-or-refused and after it).
 use Rattle.std.specs.Prelude.{ℕ, true, false, ◌≡◌, List, [], ◌∷◌, ◌++◌, length}
 use Rattle.base.specs.Refusal.{entry_shape, entry_owner, entry_type, entry_data}
-use Rattle.grammar.specs.Listing.{opening, closing, notAllowed, kind_of, is_word_byte, begins, Depth, outside, inside, Piece, Words, RecordType, ResourceRecord, Owner, Head, Rdata, Records}
+use Rattle.grammar.specs.Listing.{Kind, opening, closing, kind_of, is_word_byte, begins, Depth, outside, inside, Piece, Words, RecordType, ResourceRecord, Owner, Head, Rdata, Records}
 
 -- 20. The entry that begins with the text t, from the depth d on, has a fault of its shape: a ( that is never closed, a nested (, a stray ), a byte that
 -- is not allowed (which ends the run of a comment too); or pieces as they should be and then such a fault, up to which the entry extends
@@ -11,7 +11,7 @@ pub data ShapeFault : Depth → List ℕ → Type 0 where
   never_closed : ShapeFault inside []
   nested : {b : ℕ} {t : List ℕ} → kind_of b ≡ opening → ShapeFault inside (b ∷ t)
   stray : {b : ℕ} {t : List ℕ} → kind_of b ≡ closing → ShapeFault outside (b ∷ t)
-  not_allowed : {d : Depth} {b : ℕ} {t : List ℕ} → kind_of b ≡ notAllowed → ShapeFault d (b ∷ t)
+  not_allowed : {d : Depth} {b : ℕ} {t : List ℕ} → kind_of b ≡ Kind.not_allowed → ShapeFault d (b ∷ t)
   later : {d d' : Depth} {t rest : List ℕ} {ws : List (List ℕ)} → Piece d t ws d' rest → ShapeFault d' rest → ShapeFault d t
 
 -- 21, 22, 24. The entry with the text e, which has a right shape and words, has a fault of its words, and the first by number is n: its first byte is not

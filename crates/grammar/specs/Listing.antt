@@ -16,7 +16,7 @@ use Rattle.dhcid_text.specs.Dhcid.{SpellsDhcid}
 -- Paragraph 1, which bytes are allowed: 9, 10 and 32 to 126. And what each is where no comment is open: 9 and 32 are blanks, 10 ends a line, 40 and 41
 -- are ( and ), 59 is ;, and all others from 33 on are the bytes of words
 pub data Kind : Type 0 where
-  blank lineEnd opening closing semicolon wordByte notAllowed : Kind
+  blank line_end opening closing semicolon word_byte not_allowed : Kind
 
 -- RFC 5234's VCHAR, 33 to 126
 unfoldable pub is_visible : ℕ → Bool
@@ -25,30 +25,30 @@ is_visible b = leb 33 b && leb b 126
 unfoldable pub kind_of : ℕ → Kind
 kind_of b =
     cond (eqb b 9 || eqb b 32) blank
-    (cond (eqb b 10) lineEnd
+    (cond (eqb b 10) line_end
     (cond (eqb b 40) opening
     (cond (eqb b 41) closing
     (cond (eqb b 59) semicolon
-    (cond (is_visible b) wordByte notAllowed)))))
+    (cond (is_visible b) word_byte not_allowed)))))
 
 abbrev pub is_word_kind : Kind → Bool
-is_word_kind wordByte = true
+is_word_kind word_byte = true
 is_word_kind blank = false
-is_word_kind lineEnd = false
+is_word_kind line_end = false
 is_word_kind opening = false
 is_word_kind closing = false
 is_word_kind semicolon = false
-is_word_kind notAllowed = false
+is_word_kind not_allowed = false
 
 -- Paragraph 1, comments: a comment may hold every byte that is allowed but 10, at which it is over
 abbrev pub is_comment_kind : Kind → Bool
-is_comment_kind lineEnd = false
-is_comment_kind notAllowed = false
+is_comment_kind line_end = false
+is_comment_kind not_allowed = false
 is_comment_kind blank = true
 is_comment_kind opening = true
 is_comment_kind closing = true
 is_comment_kind semicolon = true
-is_comment_kind wordByte = true
+is_comment_kind word_byte = true
 
 abbrev pub is_word_byte : ℕ → Bool
 is_word_byte b = is_word_kind (kind_of b)
@@ -78,7 +78,7 @@ pub data Depth : Type 0 where
 -- may hold; or a word, which is the longest run of word bytes. A word has itself as its words ws, and every other piece has none
 pub data Piece : Depth → List ℕ → List (List ℕ) → Depth → List ℕ → Type 0 where
   a_blank : {d : Depth} {b : ℕ} {rest : List ℕ} → kind_of b ≡ blank → Piece d (b ∷ rest) [] d rest
-  line_inside : {b : ℕ} {rest : List ℕ} → kind_of b ≡ lineEnd → Piece inside (b ∷ rest) [] inside rest
+  line_inside : {b : ℕ} {rest : List ℕ} → kind_of b ≡ line_end → Piece inside (b ∷ rest) [] inside rest
   opens : {b : ℕ} {rest : List ℕ} → kind_of b ≡ opening → Piece outside (b ∷ rest) [] inside rest
   closes : {b : ℕ} {rest : List ℕ} → kind_of b ≡ closing → Piece inside (b ∷ rest) [] outside rest
   a_comment : {d : Depth} {b : ℕ} {t c rest : List ℕ} → kind_of b ≡ semicolon → LongestRun is_comment_byte t c rest → Piece d (b ∷ t) [] d rest

@@ -1,7 +1,7 @@
 -- The words of an entry and its end, found by a function that goes over the text once, byte by byte. It finds what Listing.antt and Faults.antt say
 -- (proofs/ScanLaws.antt), and a reader of the grammar need not know it: no definition of meaning cites it; the promises of the crates that read do.
 use Rattle.std.specs.Prelude.{ℕ, Bool, true, false, List, [], ◌∷◌, ◌++◌}
-use Rattle.grammar.specs.Listing.{Kind, blank, lineEnd, opening, closing, semicolon, wordByte, notAllowed, kind_of, is_word_byte, begins, Depth, outside, inside}
+use Rattle.grammar.specs.Listing.{Kind, blank, line_end, opening, closing, semicolon, word_byte, not_allowed, kind_of, is_word_byte, begins, Depth, outside, inside}
 
 -- whether a comment is open
 pub data Mode : Type 0 where
@@ -13,52 +13,52 @@ pub data Act : Type 0 where
 
 -- outside comments
 abbrev pub act_plain : Depth → Kind → Act
-act_plain d wordByte = letter
+act_plain d word_byte = letter
 act_plain d blank = skip
-act_plain outside lineEnd = stop
-act_plain inside lineEnd = skip
+act_plain outside line_end = stop
+act_plain inside line_end = skip
 act_plain outside opening = skip
 act_plain inside opening = break
 act_plain outside closing = break
 act_plain inside closing = skip
 act_plain d semicolon = skip
-act_plain d notAllowed = break
+act_plain d not_allowed = break
 
 abbrev pub act : Mode → Depth → Kind → Act
 act plain d k = act_plain d k
-act comment d wordByte = skip
+act comment d word_byte = skip
 act comment d blank = skip
-act comment d lineEnd = act_plain d lineEnd
+act comment d line_end = act_plain d line_end
 act comment d opening = skip
 act comment d closing = skip
 act comment d semicolon = skip
-act comment d notAllowed = break
+act comment d not_allowed = break
 
 abbrev pub depth_after : Mode → Depth → Kind → Depth
 depth_after comment d k = d
 depth_after plain d opening = inside
 depth_after plain d closing = outside
-depth_after plain d wordByte = d
+depth_after plain d word_byte = d
 depth_after plain d blank = d
-depth_after plain d lineEnd = d
+depth_after plain d line_end = d
 depth_after plain d semicolon = d
-depth_after plain d notAllowed = d
+depth_after plain d not_allowed = d
 
 abbrev pub mode_after : Mode → Kind → Mode
-mode_after comment lineEnd = plain
-mode_after comment wordByte = comment
+mode_after comment line_end = plain
+mode_after comment word_byte = comment
 mode_after comment blank = comment
 mode_after comment opening = comment
 mode_after comment closing = comment
 mode_after comment semicolon = comment
-mode_after comment notAllowed = comment
+mode_after comment not_allowed = comment
 mode_after plain semicolon = comment
-mode_after plain wordByte = plain
+mode_after plain word_byte = plain
 mode_after plain blank = plain
-mode_after plain lineEnd = plain
+mode_after plain line_end = plain
 mode_after plain opening = plain
 mode_after plain closing = plain
-mode_after plain notAllowed = plain
+mode_after plain not_allowed = plain
 
 -- how an entry ends: with the text; at a 10 outside parentheses, and the text after it; at a fault of its shape
 pub data Ending : Type 0 where

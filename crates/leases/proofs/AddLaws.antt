@@ -8,7 +8,7 @@ use Rattle.base.proofs.Tests.{eq_eq_bytes, eq_bytes_true}
 use Rattle.base.proofs.AnswerLaws.{accepted≢refused}
 use Rattle.base.specs.declared.Answer.TheVariants.{Accepted, Refused}
 use Rattle.slots.specs.Entry.{Entry, address_of}
-use Rattle.slots.specs.Effect.{entered, refreshed, takenOver}
+use Rattle.slots.specs.Effect.{entered, refreshed, taken_over}
 use Rattle.slots.specs.Form.{TableEntry}
 use Rattle.slots.specs.declared.Family.{Family}
 use Rattle.slots.specs.declared.Family.TheVariants.{V4, V6}
@@ -37,7 +37,7 @@ refreshed_refreshed : (f : Family) (x : List ℕ) (e : TableEntry) → refreshed
 refreshed_refreshed V4 x e = refl
 refreshed_refreshed V6 x e = refl
 
-refreshed_taken : (d : List ℕ) (f : Family) (x : List ℕ) (e : TableEntry) → refreshed f x (takenOver d f x e) ≡ takenOver d f x e
+refreshed_taken : (d : List ℕ) (f : Family) (x : List ℕ) (e : TableEntry) → refreshed f x (taken_over d f x e) ≡ taken_over d f x e
 refreshed_taken d V4 x e = refl
 refreshed_taken d V6 x e = refl
 
@@ -49,7 +49,7 @@ refreshed_holder : (f : Family) (x : List ℕ) (e : TableEntry) → (refreshed f
 refreshed_holder V4 x e = refl
 refreshed_holder V6 x e = refl
 
-taken_holder : (d : List ℕ) (f : Family) (x : List ℕ) (e : TableEntry) → (takenOver d f x e).holder ≡ some d
+taken_holder : (d : List ℕ) (f : Family) (x : List ℕ) (e : TableEntry) → (taken_over d f x e).holder ≡ some d
 taken_holder d V4 x e = refl
 taken_holder d V6 x e = refl
 
@@ -91,8 +91,8 @@ added_by limit t n d f x policy o (Adding.same_client c k found holder same e) =
       fixed = refreshed_refreshed f x c;
     })
 added_by limit t n d f x policy o (Adding.latest_wins c k found holder differs p e) =
-    Added.accepted 2 (changed n (takenOver d f x) t) e
-    (record { entry = takenOver d f x c; found = find_changed n (takenOver d f x) (taken_keeps_name d f x) t c found; holder = taken_holder d f x c; fixed = refreshed_taken d f x c })
+    Added.accepted 2 (changed n (taken_over d f x) t) e
+    (record { entry = taken_over d f x c; found = find_changed n (taken_over d f x) (taken_keeps_name d f x) t c found; holder = taken_holder d f x c; fixed = refreshed_taken d f x c })
 added_by limit t n d f x policy o (Adding.full found room e) = Added.refused 32 e
 added_by limit t n d f x policy o (Adding.by_hand c found holder e) = Added.refused 31 e
 added_by limit t n d f x policy o (Adding.first_wins c k found holder differs p e) = Added.refused 30 e

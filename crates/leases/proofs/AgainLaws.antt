@@ -74,8 +74,8 @@ same_names places c c' e u u' = one_reverse places u.names u'.names c' (subst (I
 
 -- an answer is a refusal or it is not
 by_answer : {P : Type 0} (r : Answer) → ((m o : ℕ) → r ≡ Refused m o → P) → ((v : ℕ) → r ≡ Accepted v → P) → P
-by_answer (Refused m o) no_answer yes-answer = no_answer m o refl
-by_answer (Accepted v) no_answer yes-answer = yes-answer v refl
+by_answer (Refused m o) no_answer yes_answer = no_answer m o refl
+by_answer (Accepted v) no_answer yes_answer = yes_answer v refl
 
 -- ---- a lease
 
@@ -270,7 +270,7 @@ module _ (limit places : ℕ) (b c name dhcid : List ℕ) (family : ℕ) (addres
           × (c₀ ≡ reverse_bytes places (uncut (end_plan (canonical name) dhcid (family_of family) address (sides_of t u)) (sides_of t u)).names)
           → Ending (canonical name) dhcid (family_of family) address (sides_of t u) → (b₁ ≡ b) × (c₁ ≡ c₀)
       go w (Ending.refused m p) = absurd (accepted≢refused (sym a ∙ w.0 ∙ ap (λ (q : Plan). q.answer) p))
-      go w (Ending.accepted y d p after-it) =
+      go w (Ending.accepted y d p after_it) =
           let one = end_between (canonical name) dhcid (family_of family) address (sides_of t u) v (sym w.0 ∙ a) in
           let all = end_all (canonical name) dhcid (family_of family) address (sides_of t u) y p in (
             e ∙ ap (λ (q : Sides). table_bytes limit q.table) one ∙ sym t.slots.form,
@@ -328,7 +328,7 @@ module _ (limit places : ℕ) (b c name dhcid : List ℕ) (family : ℕ) (addres
           CutOff.planned g.all_hold g.sound g.sound_reverse
           (g.sound.slots.form ∙ sym (ap (λ (q : Sides). table_bytes limit q.table) stays))
           (g.reverse ∙ ap (λ (q : Sides). reverse_bytes places q.names) (whole ∙ sym stays))
-      go (Ending.accepted u a p after-it) =
+      go (Ending.accepted u a p after_it) =
           let one = end_first (canonical name) dhcid (family_of family) address (sides_of g.sound g.sound_reverse) u p in
           let all = end_all (canonical name) dhcid (family_of family) address (sides_of g.sound g.sound_reverse) u p in
           CutOff.planned g.all_hold g.sound g.sound_reverse

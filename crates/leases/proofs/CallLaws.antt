@@ -15,14 +15,14 @@ use Rattle.leases.specs.Plan.{Sides, Plan, uncut, written_all, lease_plan, end_p
 use Rattle.leases.specs.Calls.{sides_of, lease_tests, end_tests, Leases, Ends}
 use Rattle.leases.specs.Cuts.{CutOff, LeaseCut, LeaseCuts, EndCut, EndCuts}
 use Rattle.leases.proofs.PlanLaws.{Leasing, leasing, Ending, ending, end_stays_whole}
-use Rattle.leases.proofs.RunLaws.{Mendable, table_sound, reverse-sound, form_of, one_call, often}
+use Rattle.leases.proofs.RunLaws.{Mendable, table_sound, reverse_sound, form_of, one_call, often}
 use Rattle.leases.proofs.LeaseLaws.{lease_mendable, end_mendable}
 
 -- a cut run of any call leaves sound sides
 cut_sound : (limit places : ℕ) (tests : List ℕ → List ℕ → List Test) (plan : Sides → Plan) → Mendable limit places tests plan → (k : ℕ) (b c b₁ c₁ : List ℕ)
     → CutOff limit places tests plan k b c b₁ c₁ → Sound limit b → SoundReverse places c → Sound limit b₁ × SoundReverse places c₁
 cut_sound limit places tests plan m k b c b₁ c₁ (CutOff.faulty n fault e e') s u = (subst (Sound limit) (sym e) s, subst (SoundReverse places) (sym e') u)
-cut_sound limit places tests plan m k b c b₁ c₁ (CutOff.planned hold t w e e') s u = let kept = m.stays_sound b c hold t w k in (table_sound kept e, reverse-sound kept e')
+cut_sound limit places tests plan m k b c b₁ c₁ (CutOff.planned hold t w e e') s u = let kept = m.stays_sound b c hold t w k in (table_sound kept e, reverse_sound kept e')
 
 -- ---- a lease
 
@@ -74,7 +74,7 @@ module _ (limit places : ℕ) (b c name dhcid : List ℕ) (family : ℕ) (addres
             g.table ∙ ap (λ (q : Sides). table_bytes limit q.table) stays ∙ sym g.sound.slots.form,
             g.reverse ∙ ap (λ (q : Sides). reverse_bytes places q.names) stays ∙ sym (form_of places c g.sound_reverse),
           )
-      go (Ending.accepted u a p after-it) = absurd (accepted≢refused (sym (ap (λ (q : Plan). q.answer) p) ∙ sym g.answer ∙ e))
+      go (Ending.accepted u a p after_it) = absurd (accepted≢refused (sym (ap (λ (q : Plan). q.answer) p) ∙ sym g.answer ∙ e))
 
   pub ended_sound : (k : ℕ) (b₁ c₁ : List ℕ) → EndCut limit places name dhcid family address k b c b₁ c₁ → Sound limit b → SoundReverse places c → Sound limit b₁ × SoundReverse places c₁
   unfolding EndCut

@@ -116,10 +116,10 @@ module _ (limit places : ℕ) (name dhcid : List ℕ) (family : ℕ) (address : 
       where
         go : Ending (canonical name) dhcid (family_of family) address (sides_of t u) → (j : ℕ) → SoundSides limit places (after j (end_plan (canonical name) dhcid (family_of family) address (sides_of t u)) (sides_of t u))
         go (Ending.refused m e) j = sound_at (end_stays (canonical name) dhcid (family_of family) address (sides_of t u) m j e) (as_found t u)
-        go (Ending.accepted w a e after-it) zero = as_found t u
-        go (Ending.accepted w a e after-it) (suc zero) =
+        go (Ending.accepted w a e after_it) zero = as_found t u
+        go (Ending.accepted w a e after_it) (suc zero) =
             sound_at (end_first (canonical name) dhcid (family_of family) address (sides_of t u) w e) (with_taken (as_found t u) (family_of family) address (canonical name))
-        go (Ending.accepted w a e after-it) (suc (suc j)) =
+        go (Ending.accepted w a e after_it) (suc (suc j)) =
             let table = subst (λ (o : StepOutcome (List ℕ)). SoundEntries limit o.table) a remove_sound in
             sound_at (end_both (canonical name) dhcid (family_of family) address (sides_of t u) w e j)
             (with_taken (with_table (as_found t u) w table) (family_of family) address (canonical name))

@@ -15,7 +15,7 @@ use Rattle.slots.specs.Entry.{address_of, Distinct}
 use Rattle.slots.specs.Entry.{names as names_of}
 use Rattle.slots.specs.Form.{TableEntry}
 use Rattle.slots.specs.declared.Family.{Family}
-use Rattle.table.specs.Steps.{StepOutcome, find, add, remove, accepted_with, refusedWith}
+use Rattle.table.specs.Steps.{StepOutcome, find, add, remove, accepted_with, refused_with}
 use Rattle.reverse.specs.Entry.{ReverseEntry, behind, has_place, placed, taken, others_at, Single}
 use Rattle.reverse.proofs.EntryLaws.{placed_again, placed_place, placed_behind, placed_others, single_placed, room_placed, taken_again, taken_behind, taken_kept, taken_others, single_taken, length_taken}
 use Rattle.leases.specs.Plan.{Sides, Write, Plan, written_first, written_all, after, uncut, refused_plan, lease_by, end_by, lease_plan, end_plan}
@@ -36,10 +36,10 @@ module _ (limit places : ℕ) (n d : List ℕ) (f : Family) (x : List ℕ) (poli
         → lease_plan limit places n d f x policy s ≡ lease_by (accepted_with v u) (placed f x n s.names) → Leasing s
 
   -- where there is a place, by the add
-  pub lease_by : (s : Sides) (o : StepOutcome (List ℕ)) → has_place places f x s.names ≡ true → add limit eq_bytes s.table n d f x policy ≡ o
+  pub lease_by_lem : (s : Sides) (o : StepOutcome (List ℕ)) → has_place places f x s.names ≡ true → add limit eq_bytes s.table n d f x policy ≡ o
       → lease_plan limit places n d f x policy s ≡ lease_by o (placed f x n s.names)
   unfolding lease_plan
-  lease_by s o has e =
+  lease_by_lem s o has e =
       ap (λ (b : Bool). cond b (lease_by (add limit eq_bytes s.table n d f x policy) (placed f x n s.names)) (refused_plan reverse_full)) has
       ∙ ap (λ (w : StepOutcome (List ℕ)). lease_by w (placed f x n s.names)) e
 
@@ -56,18 +56,18 @@ module _ (limit places : ℕ) (n d : List ℕ) (f : Family) (x : List ℕ) (poli
       go : Added s.table n d f x (add limit eq_bytes s.table n d f x policy)
           → ((lease_plan limit places n d f x policy s).answer ≡ (add limit eq_bytes s.table n d f x policy).answer) × ((uncut (lease_plan limit places n d f x policy s) s).table ≡ (add limit eq_bytes s.table n d f x policy).table)
       go (Added.refused m e) =
-          let p = lease_by s (refusedWith m s.table) has e in
+          let p = lease_by_lem s (refused_with m s.table) has e in
           (ap (λ (q : Plan). q.answer) p ∙ sym (ap (λ (o : StepOutcome (List ℕ)). o.answer) e), ap (λ (q : Plan). (uncut q s).table) p ∙ sym (ap (λ (o : StepOutcome (List ℕ)). o.table) e))
       go (Added.accepted v u e h) =
-          let p = lease_by s (accepted_with v u) has e in
+          let p = lease_by_lem s (accepted_with v u) has e in
           (ap (λ (q : Plan). q.answer) p ∙ sym (ap (λ (o : StepOutcome (List ℕ)). o.answer) e), ap (λ (q : Plan). (uncut q s).table) p ∙ sym (ap (λ (o : StepOutcome (List ℕ)). o.table) e))
 
   pub leasing : (s : Sides) → Leasing s
   leasing s = by_place (has_place places f x s.names) refl
     where
       by_add : has_place places f x s.names ≡ true → Added s.table n d f x (add limit eq_bytes s.table n d f x policy) → Leasing s
-      by_add has (Added.refused m e) = Leasing.refused m (lease_by s (refusedWith m s.table) has e)
-      by_add has (Added.accepted v u e h) = Leasing.accepted v u has e h (lease_by s (accepted_with v u) has e)
+      by_add has (Added.refused m e) = Leasing.refused m (lease_by_lem s (refused_with m s.table) has e)
+      by_add has (Added.accepted v u e h) = Leasing.accepted v u has e h (lease_by_lem s (accepted_with v u) has e)
 
       by_place : (b : Bool) → has_place places f x s.names ≡ b → Leasing s
       by_place true has = by_add has (added limit s.table n d f x policy)
@@ -80,7 +80,7 @@ module _ (limit places : ℕ) (n d : List ℕ) (f : Family) (x : List ℕ) (poli
   -- the same again where the client holds the name with that address: 1, and the table stays
   held_again : (u : List TableEntry) (rs : List ReverseEntry) → has_place places f x rs ≡ true → Holds u n d f x
       → lease_plan limit places n d f x policy (sides u rs) ≡ lease_by (accepted_with 1 u) (placed f x n rs)
-  held_again u rs has h = lease_by (sides u rs) (accepted_with 1 u) has (add_holder limit u n d f x policy h)
+  held_again u rs has h = lease_by_lem (sides u rs) (accepted_with 1 u) has (add_holder limit u n d f x policy h)
 
   -- the three states of an accepted lease
   module _ (s : Sides) (v : ℕ) (u : List TableEntry) (e : lease_plan limit places n d f x policy s ≡ lease_by (accepted_with v u) (placed f x n s.names)) where
@@ -199,9 +199,9 @@ module _ (n d : List ℕ) (f : Family) (x : List ℕ) where
     accepted : (u : List TableEntry) → remove eq_bytes s.table n d f x ≡ accepted_with 0 u → end_plan n d f x s ≡ end_by (accepted_with 0 u) (taken f x n s.names)
         → (Distinct (names_of s.table) → Afterwards u n d f x) → Ending s
 
-  pub end_by : (s : Sides) (o : StepOutcome (List ℕ)) → remove eq_bytes s.table n d f x ≡ o → end_plan n d f x s ≡ end_by o (taken f x n s.names)
+  pub end_by_lem : (s : Sides) (o : StepOutcome (List ℕ)) → remove eq_bytes s.table n d f x ≡ o → end_plan n d f x s ≡ end_by o (taken f x n s.names)
   unfolding end_plan
-  end_by s o e = ap (λ (w : StepOutcome (List ℕ)). end_by w (taken f x n s.names)) e
+  end_by_lem s o e = ap (λ (w : StepOutcome (List ℕ)). end_by w (taken f x n s.names)) e
 
   -- the forward step is remove's
   pub end_forward : (s : Sides) → ((end_plan n d f x s).answer ≡ (remove eq_bytes s.table n d f x).answer) × ((uncut (end_plan n d f x s) s).table ≡ (remove eq_bytes s.table n d f x).table)
@@ -211,22 +211,22 @@ module _ (n d : List ℕ) (f : Family) (x : List ℕ) where
       go : Removed s.table n d f x (remove eq_bytes s.table n d f x)
           → ((end_plan n d f x s).answer ≡ (remove eq_bytes s.table n d f x).answer) × ((uncut (end_plan n d f x s) s).table ≡ (remove eq_bytes s.table n d f x).table)
       go (Removed.refused m e) =
-          let p = end_by s (refusedWith m s.table) e in
+          let p = end_by_lem s (refused_with m s.table) e in
           (ap (λ (q : Plan). q.answer) p ∙ sym (ap (λ (o : StepOutcome (List ℕ)). o.answer) e), ap (λ (q : Plan). (uncut q s).table) p ∙ sym (ap (λ (o : StepOutcome (List ℕ)). o.table) e))
       go (Removed.accepted u e later) =
-          let p = end_by s (accepted_with 0 u) e in
+          let p = end_by_lem s (accepted_with 0 u) e in
           (ap (λ (q : Plan). q.answer) p ∙ sym (ap (λ (o : StepOutcome (List ℕ)). o.answer) e), ap (λ (q : Plan). (uncut q s).table) p ∙ sym (ap (λ (o : StepOutcome (List ℕ)). o.table) e))
 
   pub ending : (s : Sides) → Ending s
   ending s = by_remove (removal s.table n d f x)
     where
       by_remove : Removed s.table n d f x (remove eq_bytes s.table n d f x) → Ending s
-      by_remove (Removed.refused m e) = Ending.refused m (end_by s (refusedWith m s.table) e)
-      by_remove (Removed.accepted u e later) = Ending.accepted u e (end_by s (accepted_with 0 u) e) later
+      by_remove (Removed.refused m e) = Ending.refused m (end_by_lem s (refused_with m s.table) e)
+      by_remove (Removed.accepted u e later) = Ending.accepted u e (end_by_lem s (accepted_with 0 u) e) later
 
   pub end_two : (s : Sides) → Ending s → Two (end_plan n d f x s)
   end_two s (Ending.refused m e) = Two.none (ap (λ (p : Plan). p.writes) e)
-  end_two s (Ending.accepted u a e after-it) = Two.two _ _ (ap (λ (p : Plan). p.writes) e)
+  end_two s (Ending.accepted u a e after_it) = Two.two _ _ (ap (λ (p : Plan). p.writes) e)
 
   module _ (s : Sides) (u : List TableEntry) (e : end_plan n d f x s ≡ end_by (accepted_with 0 u) (taken f x n s.names)) where
     pub end_first : after 1 (end_plan n d f x s) s ≡ sides s.table (taken f x n s.names)
@@ -253,8 +253,8 @@ module _ (n d : List ℕ) (f : Family) (x : List ℕ) where
 
   -- the same again, after both writes: 33 or 34
   end_again : (u : List TableEntry) (rs : List ReverseEntry) → Afterwards u n d f x → (m : ℕ) × (end_plan n d f x (sides u rs) ≡ refused_plan m)
-  end_again u rs (Afterwards.kept c found r) = (34, end_by (sides u rs) (refusedWith 34 u) r)
-  end_again u rs (Afterwards.gone found r) = (33, end_by (sides u rs) (refusedWith 33 u) r)
+  end_again u rs (Afterwards.kept c found r) = (34, end_by_lem (sides u rs) (refused_with 34 u) r)
+  end_again u rs (Afterwards.gone found r) = (33, end_by_lem (sides u rs) (refused_with 33 u) r)
 
   end_mends_by : (s : Sides) → Apart s → Ending s → Mends (end_plan n d f x) s
   end_mends_by s apart (Ending.refused m e) =
@@ -267,14 +267,14 @@ module _ (n d : List ℕ) (f : Family) (x : List ℕ) where
         done_whole = ap (λ (w : Sides). uncut (end_plan n d f x w) w) all;
         done_cut = ap (λ (w : Sides). after 1 (end_plan n d f x w) w) all ∙ one ∙ sym all;
       }
-  end_mends_by s apart (Ending.accepted u a e after-it) =
+  end_mends_by s apart (Ending.accepted u a e after_it) =
       let t = s.table in
       let rs = s.names in
       let one = end_first s u e in
       let all = end_all s u e in
       let twice = taken_again f x n rs apart.names in
-      let again = end_by (sides t (taken f x n rs)) (accepted_with 0 u) a in
-      let still = end_again u (taken f x n rs) (after-it apart.table) in
+      let again = end_by_lem (sides t (taken f x n rs)) (accepted_with 0 u) a in
+      let still = end_again u (taken f x n rs) (after_it apart.table) in
       record {
         size = λ w. end_two w (ending w);
         between_whole = ap (λ (w : Sides). uncut (end_plan n d f x w) w) one ∙ end_all (sides t (taken f x n rs)) u again ∙ ap (sides u) twice ∙ sym all;
@@ -296,7 +296,7 @@ module _ (n d : List ℕ) (f : Family) (x : List ℕ) where
     where
       go : Ending s → (end_plan n d f x (after k (end_plan n d f x s) s)).answer ≡ Refused m o
       go (Ending.refused j e) = ap (λ (w : Sides). (end_plan n d f x w).answer) (end_stays s j k e) ∙ a
-      go (Ending.accepted u b e after-it) = absurd (accepted≢refused (ap (λ (p : Plan). p.answer) (sym e) ∙ a))
+      go (Ending.accepted u b e after_it) = absurd (accepted≢refused (ap (λ (p : Plan). p.answer) (sym e) ∙ a))
 
   -- of an accepted one 0 after the first write,
   pub second_end_between : (s : Sides) (v : ℕ) → (end_plan n d f x s).answer ≡ Accepted v → (end_plan n d f x (after 1 (end_plan n d f x s) s)).answer ≡ Accepted 0
@@ -304,8 +304,8 @@ module _ (n d : List ℕ) (f : Family) (x : List ℕ) where
     where
       go : Ending s → (end_plan n d f x (after 1 (end_plan n d f x s) s)).answer ≡ Accepted 0
       go (Ending.refused m e) = absurd (accepted≢refused (sym a ∙ ap (λ (p : Plan). p.answer) e))
-      go (Ending.accepted u b e after-it) =
-          ap (λ (w : Sides). (end_plan n d f x w).answer) (end_first s u e) ∙ ap (λ (p : Plan). p.answer) (end_by (sides s.table (taken f x n s.names)) (accepted_with 0 u) b)
+      go (Ending.accepted u b e after_it) =
+          ap (λ (w : Sides). (end_plan n d f x w).answer) (end_first s u e) ∙ ap (λ (p : Plan). p.answer) (end_by_lem (sides s.table (taken f x n s.names)) (accepted_with 0 u) b)
 
   -- and after both 33 if the name is gone, 34 if it stands
   pub data SecondAnswer (s : Sides) (r : Answer) : Type 0 where
@@ -320,14 +320,14 @@ module _ (n d : List ℕ) (f : Family) (x : List ℕ) where
           → SecondAnswer s (end_plan n d f x (after (suc (suc k)) (end_plan n d f x s) s)).answer
       by_name u e (Afterwards.kept c found r) =
           SecondAnswer.kept c (ap (λ (w : Sides). find n w.table) (end_all s u e) ∙ found)
-          (ap (λ (w : Sides). (end_plan n d f x w).answer) (end_both s u e k) ∙ ap (λ (p : Plan). p.answer) (end_by (sides u (taken f x n s.names)) (refusedWith 34 u) r))
+          (ap (λ (w : Sides). (end_plan n d f x w).answer) (end_both s u e k) ∙ ap (λ (p : Plan). p.answer) (end_by_lem (sides u (taken f x n s.names)) (refused_with 34 u) r))
       by_name u e (Afterwards.gone found r) =
           SecondAnswer.gone (ap (λ (w : Sides). find n w.table) (end_all s u e) ∙ found)
-          (ap (λ (w : Sides). (end_plan n d f x w).answer) (end_both s u e k) ∙ ap (λ (p : Plan). p.answer) (end_by (sides u (taken f x n s.names)) (refusedWith 33 u) r))
+          (ap (λ (w : Sides). (end_plan n d f x w).answer) (end_both s u e k) ∙ ap (λ (p : Plan). p.answer) (end_by_lem (sides u (taken f x n s.names)) (refused_with 33 u) r))
 
       go : Ending s → SecondAnswer s (end_plan n d f x (after (suc (suc k)) (end_plan n d f x s) s)).answer
       go (Ending.refused m e) = absurd (accepted≢refused (sym a ∙ ap (λ (p : Plan). p.answer) e))
-      go (Ending.accepted u b e after-it) = by_name u e (after-it apart.table)
+      go (Ending.accepted u b e after_it) = by_name u e (after_it apart.table)
 
   -- what stands when one step of an accepted ended lease is done: the old table, and the reverse side without the name; and in every state from then on the name is not behind the address
   pub end_between : (s : Sides) (v : ℕ) → (end_plan n d f x s).answer ≡ Accepted v → after 1 (end_plan n d f x s) s ≡ sides s.table (taken f x n s.names)
@@ -335,15 +335,15 @@ module _ (n d : List ℕ) (f : Family) (x : List ℕ) where
     where
       go : Ending s → after 1 (end_plan n d f x s) s ≡ sides s.table (taken f x n s.names)
       go (Ending.refused m e) = absurd (accepted≢refused (sym a ∙ ap (λ (p : Plan). p.answer) e))
-      go (Ending.accepted u b e after-it) = end_first s u e
+      go (Ending.accepted u b e after_it) = end_first s u e
 
   pub end_not_behind : (s : Sides) → Single s.names → (v k : ℕ) → (end_plan n d f x s).answer ≡ Accepted v → behind f x (after (suc k) (end_plan n d f x s) s).names ≡ some n → ⊥
   end_not_behind s single v k a = go (ending s) k
     where
       go : Ending s → (j : ℕ) → behind f x (after (suc j) (end_plan n d f x s) s).names ≡ some n → ⊥
       go (Ending.refused m e) j b = accepted≢refused (sym a ∙ ap (λ (p : Plan). p.answer) e)
-      go (Ending.accepted u c e after-it) zero b = taken_behind f x n s.names single (sym (ap (λ (w : Sides). behind f x w.names) (end_first s u e)) ∙ b)
-      go (Ending.accepted u c e after-it) (suc j) b = taken_behind f x n s.names single (sym (ap (λ (w : Sides). behind f x w.names) (end_both s u e j)) ∙ b)
+      go (Ending.accepted u c e after_it) zero b = taken_behind f x n s.names single (sym (ap (λ (w : Sides). behind f x w.names) (end_first s u e)) ∙ b)
+      go (Ending.accepted u c e after_it) (suc j) b = taken_behind f x n s.names single (sym (ap (λ (w : Sides). behind f x w.names) (end_both s u e j)) ∙ b)
 
 -- ==== no other reverse name changes, cut or not
 
@@ -375,9 +375,9 @@ module _ (n d : List ℕ) (f : Family) (x : List ℕ) (s : Sides) where
     where
       go : Ending n d f x s → (j : ℕ) → EndNames f x n s.names (after j (end_plan n d f x s) s).names
       go (Ending.refused m e) j = EndNames.same (ap (λ (w : Sides). w.names) (end_stays n d f x s m j e))
-      go (Ending.accepted u b e after-it) zero = EndNames.same (ap (λ (w : Sides). w.names) (nothing_done (end_plan n d f x s) s))
-      go (Ending.accepted u b e after-it) (suc zero) = EndNames.out (ap (λ (w : Sides). w.names) (end_first n d f x s u e))
-      go (Ending.accepted u b e after-it) (suc (suc j)) = EndNames.out (ap (λ (w : Sides). w.names) (end_both n d f x s u e j))
+      go (Ending.accepted u b e after_it) zero = EndNames.same (ap (λ (w : Sides). w.names) (nothing_done (end_plan n d f x s) s))
+      go (Ending.accepted u b e after_it) (suc zero) = EndNames.out (ap (λ (w : Sides). w.names) (end_first n d f x s u e))
+      go (Ending.accepted u b e after_it) (suc (suc j)) = EndNames.out (ap (λ (w : Sides). w.names) (end_both n d f x s u e j))
 
   -- where the name is not behind the address, the names stay
   pub end_leaves : (k : ℕ) → (behind f x s.names ≡ some n → ⊥) → (after k (end_plan n d f x s) s).names ≡ s.names

@@ -12,27 +12,27 @@ use Rattle.slots.specs.Form.{TableEntry}
 use Rattle.slots.specs.Promise.{holding, is_address}
 use Rattle.slots.specs.declared.Family.{Family}
 use Rattle.slots.specs.declared.Holding.TheVariants.{ByThis, ByAnother}
-use Rattle.table.specs.Steps.{StepOutcome, find, changed, without, accepted_with, refusedWith, removing, removed, removedFrom, remove}
+use Rattle.table.specs.Steps.{StepOutcome, find, changed, without, accepted_with, refused_with, removing, removed, removed_from, remove}
 use Rattle.table.proofs.CaseLaws.{Removing, remove_case}
 use Rattle.table.proofs.OthersLaws.{find_changed, find_without}
 use Rattle.table.proofs.SoundLaws.{keeps_name, deleted_address, deleted_holder}
 
 -- the same remove again, where u was left: 34 where the name stands, 33 where it is gone
 pub data Afterwards (u : List TableEntry) (n d : List ℕ) (f : Family) (x : List ℕ) : Type 0 where
-  kept : (c : TableEntry) → find n u ≡ some c → remove eq_bytes u n d f x ≡ refusedWith 34 u → Afterwards u n d f x
-  gone : find n u ≡ none → remove eq_bytes u n d f x ≡ refusedWith 33 u → Afterwards u n d f x
+  kept : (c : TableEntry) → find n u ≡ some c → remove eq_bytes u n d f x ≡ refused_with 34 u → Afterwards u n d f x
+  gone : find n u ≡ none → remove eq_bytes u n d f x ≡ refused_with 33 u → Afterwards u n d f x
 
 module _ (t : List TableEntry) (n d : List ℕ) (f : Family) (x : List ℕ) where
   -- of a name that does not stand
-  remove_none : find n t ≡ none → remove eq_bytes t n d f x ≡ refusedWith 33 t
+  remove_none : find n t ≡ none → remove eq_bytes t n d f x ≡ refused_with 33 t
   unfolding remove
   remove_none found = rw found
 
   -- of an address that the client does not have
-  remove_missing : (e : TableEntry) → find n t ≡ some e → e.holder ≡ some d → address_of f e ≡ none → remove eq_bytes t n d f x ≡ refusedWith 34 t
+  remove_missing : (e : TableEntry) → find n t ≡ some e → e.holder ≡ some d → address_of f e ≡ none → remove eq_bytes t n d f x ≡ refused_with 34 t
   unfolding remove
   remove_missing e found holder missing =
-      ap (λ (o : Option TableEntry). removedFrom o eq_bytes t n d f x) found
+      ap (λ (o : Option TableEntry). removed_from o eq_bytes t n d f x) found
       ∙ ap (λ (o : Option (List ℕ)). removing (holding eq_bytes o d) (is_address (address_of f e) x) t (removed n f e t)) holder
       ∙ ap (λ (b : Bool). removing (cond b ByThis ByAnother) (is_address (address_of f e) x) t (removed n f e t)) (eq_eq_bytes d d refl)
       ∙ ap (λ (o : Option (List ℕ)). removing ByThis (is_address o x) t (removed n f e t)) missing
@@ -48,7 +48,7 @@ module _ (t : List TableEntry) (n d : List ℕ) (f : Family) (x : List ℕ) wher
 
   -- refused, and the table stays; or accepted with 0
   pub data Removed (o : StepOutcome (List ℕ)) : Type 0 where
-    refused : (m : ℕ) → o ≡ refusedWith m t → Removed o
+    refused : (m : ℕ) → o ≡ refused_with m t → Removed o
     accepted : (u : List TableEntry) → o ≡ accepted_with 0 u → (Distinct (names t) → Afterwards u n d f x) → Removed o
 
   removed_by : (o : StepOutcome (List ℕ)) → Removing eq_bytes t n d f x o → Removed o

@@ -38,8 +38,8 @@ module _ {limit places : ℕ} {s : Sides} (h : SoundSides limit places s) where
   unfolding reverse_bytes
   names_in e = record { each = h.each; room = h.room; form = e }
 
-  abbrev pub reverse-sound : {c : List ℕ} → c ≡ reverse_bytes places s.names → SoundReverse places c
-  reverse-sound e = record { names = s.names; slots = names_in e; single = h.single }
+  abbrev pub reverse_sound : {c : List ℕ} → c ≡ reverse_bytes places s.names → SoundReverse places c
+  reverse_sound e = record { names = s.names; slots = names_in e; single = h.single }
 
   pub reverse_names : {c : List ℕ} (e : c ≡ reverse_bytes places s.names) (u : SoundReverse places c) → u.names ≡ s.names
   reverse_names {c} e u = one_reverse places u.names s.names c u.slots (names_in e)
@@ -133,7 +133,7 @@ module _ (limit places : ℕ) (tests : List ℕ → List ℕ → List Test) (pla
 
       u₁ : SoundReverse places c₁
       unfolding s₁
-      u₁ = reverse-sound kept e'
+      u₁ = reverse_sound kept e'
 
       sides_are : sides_of t₁ u₁ ≡ s₁
       unfolding s₁ t₁
@@ -160,8 +160,8 @@ module _ (limit places : ℕ) (tests : List ℕ → List ℕ → List Test) (pla
 
     again_faulty : (n : ℕ) → FirstFault (tests b c) n → b₁ ≡ b → c₁ ≡ c → (b₂ ≡ b₀) × (c₂ ≡ c₀) × Again b c k r r₂ b₀
     again_faulty n fault e e' =
-        let second-there = subst (λ (y : List ℕ). CalledOn limit places (tests b y) b y plan r₂ b₂ c₂) e' (subst (λ (x : List ℕ). CalledOn limit places (tests x c₁) x c₁ plan r₂ b₂ c₂) e second) in
-        let same = one_call limit places (tests b c) b c plan r₂ r b₂ c₂ b₀ c₀ second-there whole in
+        let second_there = subst (λ (y : List ℕ). CalledOn limit places (tests b y) b y plan r₂ b₂ c₂) e' (subst (λ (x : List ℕ). CalledOn limit places (tests x c₁) x c₁ plan r₂ b₂ c₂) e second) in
+        let same = one_call limit places (tests b c) b c plan r₂ r b₂ c₂ b₀ c₀ second_there whole in
         (same.1, same.2, by_fault whole same.0)
       where
         by_fault : CalledOn limit places (tests b c) b c plan r b₀ c₀ → r₂ ≡ r → Again b c k r r₂ b₀
@@ -191,7 +191,7 @@ module _ (limit places : ℕ) (tests : List ℕ → List ℕ → List Test) (pla
         → (i : ℕ) × (i ≤ 2) × CutOff limit places tests plan i b c b₂ c₂
     unfolding s
     cut_twice k j b₁ c₁ b₂ c₂ e e' (CutOff.faulty n fault f f') =
-        absurd (no_fault (tests b₁ c₁) n (m.hold_again b c b₁ c₁ hold (table_sound (m.stays_sound b c hold t u k) e) (reverse-sound (m.stays_sound b c hold t u k) e')) fault)
+        absurd (no_fault (tests b₁ c₁) n (m.hold_again b c b₁ c₁ hold (table_sound (m.stays_sound b c hold t u k) e) (reverse_sound (m.stays_sound b c hold t u k) e')) fault)
     cut_twice k j b₁ c₁ b₂ c₂ e e' (CutOff.planned hold₁ t₁ u₁ f f') =
         let h = m.mends b c t u in
         let kept = m.stays_sound b c hold t u k in

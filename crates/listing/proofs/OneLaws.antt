@@ -66,8 +66,8 @@ module _ {t : List ℕ} {at next : ℕ} {e : List ℕ} {ws : List (List ℕ)} (x
 
 -- the entry of the record, after entries with no words, is one
 module _ (t : List ℕ) where
-  abbrev wordsFrom : ℕ → List (List ℕ)
-  wordsFrom at = (scan plain outside (drop at t)).words
+  abbrev words_from : ℕ → List (List ℕ)
+  words_from at = (scan plain outside (drop at t)).words
 
   abbrev next_from : ℕ → ℕ
   next_from at = behind t (scan plain outside (drop at t)).ending
@@ -75,8 +75,8 @@ module _ (t : List ℕ) where
   one_record : {at at' i j next next' : ℕ} {e e' : List ℕ} {r r' : ResourceRecord} → NoWords t at i → EntryText t i e next → RecordEntry e r
       → NoWords t at' j → EntryText t j e' next' → RecordEntry e' r' → at ≡ at' → next ≡ next'
   one_record NoWords.none x z NoWords.none x' z' q = text_next x z.words ∙ ap next_from q ∙ sym (text_next x' z'.words)
-  one_record NoWords.none x z (NoWords.more f y w p) x' z' q = absurd (cons≢nil (sym (text_words x z.words) ∙ ap wordsFrom q ∙ text_words y w))
-  one_record (NoWords.more f y w p) x z NoWords.none x' z' q = absurd (nil≢cons (sym (text_words y w) ∙ ap wordsFrom q ∙ text_words x' z'.words))
+  one_record NoWords.none x z (NoWords.more f y w p) x' z' q = absurd (cons≢nil (sym (text_words x z.words) ∙ ap words_from q ∙ text_words y w))
+  one_record (NoWords.more f y w p) x z NoWords.none x' z' q = absurd (nil≢cons (sym (text_words y w) ∙ ap words_from q ∙ text_words x' z'.words))
   one_record (NoWords.more f y w p) x z (NoWords.more f' y' w' p') x' z' q = one_record p x z p' x' z' (text_next y w ∙ ap next_from q ∙ sym (text_next y' w'))
 
 goes_one : (t : List ℕ) (at : ℕ) (f : Found) (i j : ℕ) → GoesOn t at f i → GoesOn t at f j → i ≡ j

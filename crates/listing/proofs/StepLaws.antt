@@ -65,15 +65,15 @@ module _ (t : List ℕ) (at i : ℕ) (h : Skipped t at i) where
       abbrev c : ContentIs t i TheVariants.Record e.«record» e.next
       c = content_is t i e TheVariants.Record is q
 
-      abbrev with-record : Step
-      with-record = record { found = found.Record; «record» = e.«record»; next = e.next }
+      abbrev with_record : Step
+      with_record = record { found = found.Record; «record» = e.«record»; next = e.next }
 
-      pub step_record : StepIs t at with-record
+      pub step_record : StepIs t at with_record
       step_record =
           let on : i < e.next = is.on in
           record {
             is_next =
-                record_answers t at with-record short c.0 (λ k. record { refused = false; number = 0; offset = 0; count = 1; «record» = c.1 k }) (omega (arith, h.from))
+                record_answers t at with_record short c.0 (λ k. record { refused = false; number = 0; offset = 0; count = 1; «record» = c.1 k }) (omega (arith, h.from))
                 (h.same ∙ ap (shifted (i - at)) c.2 ∙ shifted_after (i - at) c.0 (shifted (e.next - i) (read (drop e.next t)))
                 ∙ ap (after c.0) (further (read (drop e.next t))));
             goes_on = record { from = i; passed = h.passed; entry = c.4; stands = c.5; «record» = c.0; spells = c.6 };

@@ -18,7 +18,7 @@ use Rattle.listing.specs.Giving.{end, Gives, whole, StepIs}
 use Rattle.listing.specs.declared.Found.TheVariants
 use Rattle.listing.specs.declared.Step.{Step}
 use Rattle.listing.specs.contracts.Found.{the_type}
-use Rattle.listing.proofs.NextLaws.{next_record as found-record, none_left, within_limit}
+use Rattle.listing.proofs.NextLaws.{next_record as found_record, none_left, within_limit}
 use Rattle.listing.proofs.SpellingLaws.{spells_by}
 use Rattle.listing.proofs.Theorems.{accepted_only}
 use Rattle.listing_check.specs.Printing.{Printable}
@@ -46,7 +46,7 @@ pub record NextIs (t : List ℕ) (at : ℕ) (s : Step) : Type 0 where
 module _ (t : List ℕ) (at : ℕ) (p : Printable t at) (s : Step) (is : StepIs t at s) where
   pub next_record : s.found ≡ TheVariants.Record → NextIs t at s
   next_record q =
-      let n = found-record t at s is p.0 p.1 q in
+      let n = found_record t at s is p.0 p.1 q in
       let g = subst (λ (rs : List ResourceRecord). Gives t at rs end) n.order p.1 in
       record { head = n.head; rest = n.rest; given = g; holds = record { form = n.holds; well_formed = first_well_formed g }; on = n.on; goes_on = n.goes_on }
 

@@ -16,7 +16,7 @@ use Rattle.writer.specs.Line.{Holds}
 use Rattle.writer.proofs.PlaceLaws.{name_in, name_held}
 use Rattle.listing.specs.Giving.{end, Gives}
 use Rattle.records.specs.Gathered.{is_of, data_of, Single}
-use Rattle.records.proofs.DataLaws.{is_of, other_owner, other_type, data_none, data_other, data_one, data_not_one, length_data_append}
+use Rattle.records.proofs.DataLaws.{is_of_lem, other_owner, other_type, data_none, data_other, data_one, data_not_one, length_data_append}
 use Rattle.records.proofs.OwnerLaws.{by_name}
 use Rattle.load_check.specs.Loading.{Entered, records, EntriesUpTo, FirstRepeat}
 use Rattle.load_check.specs.Walking.{Walked, Like, FirstLike, FirstAlike}
@@ -52,7 +52,7 @@ single_more es r single other n k = go (is_of n k r) refl
   where
     go : (b : Bool) → is_of n k r ≡ b → length (data_of n k (records es ++ r ∷ [])) ≤ 1
     go true q =
-        let of = is_of n k r q in
+        let of = is_of_lem n k r q in
         let none : data_of n k (records es) ≡ [] = (λ i. data_of (sym of.0 i) (sym of.1 i) (records es)) ∙ not_alike r.owner r.rtype es other in
         omega (arith, length_data_append n k (records es) (r ∷ []), ap length none, ap length (data_one n k r q))
     go false q = omega (arith, length_data_append n k (records es) (r ∷ []), ap length (data_not_one n k r q), single n k)

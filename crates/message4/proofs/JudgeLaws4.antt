@@ -104,9 +104,9 @@ module _ (m : List ℕ) (ls : List Located) (h : Every (DataIn m) ls) where
   unfolding wanted_of
   wanted_inside = record { overload = kept_inside m 52 ls h; message_type = kept_inside m 53 ls h; client_id = kept_inside m 61 ls h; client_fqdn = kept_inside m 81 ls h }
 
-  pub judged_by : judged_by m (wanted_of ls) ≡ judge4 m ls
+  pub judged_by_lem : judged_by m (wanted_of ls) ≡ judge4 m ls
   unfolding judged_by wanted_of judge4 is_repeated
-  judged_by =
+  judged_by_lem =
       rw (
         again_is (having 52 ls),
         again_is (having 53 ls),

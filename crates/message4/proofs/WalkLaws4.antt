@@ -17,7 +17,7 @@ use Rattle.message4.specs.Reading4.{before, fields_after, fields4, placed, optio
 use Rattle.message4.specs.Judging4.{wanted_of, noted, WantedInside, DataIn, judged_by}
 use Rattle.message4.specs.declared.Wanted.{Wanted}
 use Rattle.message4.proofs.Laws4.{field_pad, field_end, field_option, fields_skip}
-use Rattle.message4.proofs.JudgeLaws4.{noted_next, wanted_inside, judged_by}
+use Rattle.message4.proofs.JudgeLaws4.{noted_next, wanted_inside, judged_by_lem}
 
 -- ---- what the first field of an options field comes to, at the offset at
 
@@ -130,7 +130,7 @@ module _ (m : List ℕ) (i : ℕ) (w : Wanted) (p : Passed m i w) where
     pub passed_end : get_or m i 0 ≡ 255 → judged_by m w ≡ after_header4 m
     passed_end e =
         rw p.kept
-        (judged_by m p.done p.inside
+        (judged_by_lem m p.done p.inside
         ∙ sym
         (found_here (some []) (ap (options4 i) (drop-cons m i 0 within ∙ ap (λ (c : ℕ). c ∷ drop (suc i) m) e) ∙ options_end i (drop (suc i) m))
         ∙ ap (λ (ls : List Located). by_options m (some ls)) (append-nil p.done)))

@@ -52,8 +52,8 @@ module _ (b : ℕ) where
       by_case
       (λ e.
       let r = upper_range e in
-      let not-upper : is_upper (b + 32) ≡ false = unfold is_upper in over 65 (b + 32) 90 (omega arith) in
-      ap lower (lower_upper b e) ∙ lower_other (b + 32) not-upper ∙ sym (lower_upper b e))
+      let not_upper : is_upper (b + 32) ≡ false = unfold is_upper in over 65 (b + 32) 90 (omega arith) in
+      ap lower (lower_upper b e) ∙ lower_other (b + 32) not_upper ∙ sym (lower_upper b e))
       (λ e. ap lower (lower_other b e))
 
   pub label_byte_lower : is_label_byte b ≡ true → is_label_byte (lower b) ≡ true

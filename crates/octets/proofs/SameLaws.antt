@@ -52,8 +52,8 @@ module _ (a b : List ℕ) (at : ℕ) where
         record {
           low = omega arith;
           forth = λ z.
-              let none-set = or_none_lem bits (bit_xor x y) z in
-              take_more (chunk a) (chunk b) i (p.forth none-set.0) (there a i lt ∙ xor_none x y none-set.1 ∙ sym (there b i lt)) (omega (arith, long a fits)) (omega (arith, long b fits'));
+              let none_set = or_none_lem bits (bit_xor x y) z in
+              take_more (chunk a) (chunk b) i (p.forth none_set.0) (there a i lt ∙ xor_none x y none_set.1 ∙ sym (there b i lt)) (omega (arith, long a fits)) (omega (arith, long b fits'));
           back = λ e.
               let same : x ≡ y = sym (there a i lt) ∙ ap (λ (l : List ℕ). get_or l i 0) e ∙ there b i lt in
               ap₂ bit_or (p.back e) (ap (λ (v : ℕ). bit_xor v y) same ∙ xor_self y);

@@ -24,9 +24,9 @@ apart_types j k h e = true≢false (sym (eq-eqb (type_number j) (type_number k) 
 
 module _ (n : List ℕ) (k : RecordType) (r : ResourceRecord) where
   -- a record that passes has that owner and that type
-  pub is_of : is_of n k r ≡ true → (r.owner ≡ n) × (r.rtype ≡ k)
+  pub is_of_lem : is_of n k r ≡ true → (r.owner ≡ n) × (r.rtype ≡ k)
   unfolding is_of
-  is_of t =
+  is_of_lem t =
       let owner = and_left (eq_bytes r.owner n) (eqb (type_number r.rtype) (type_number k)) t in
       let type = and_right (eq_bytes r.owner n) (eqb (type_number r.rtype) (type_number k)) t in
       (eq_bytes_true r.owner n owner, one_type r.rtype k (eqb-true (type_number r.rtype) (type_number k) type))
@@ -41,7 +41,7 @@ module _ (n : List ℕ) (k : RecordType) (r : ResourceRecord) where
   not_of h = go (is_of n k r) refl
     where
       go : (t : Bool) → is_of n k r ≡ t → t ≡ false
-      go true e = absurd (h (is_of e))
+      go true e = absurd (h (is_of_lem e))
       go false e = refl
 
   pub other_owner : (r.owner ≡ n → ⊥) → is_of n k r ≡ false

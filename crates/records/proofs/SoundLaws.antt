@@ -14,7 +14,7 @@ use Rattle.writer.specs.Line.{RdataOf}
 use Rattle.slots.specs.Entry.{names, Distinct}
 use Rattle.slots.specs.Form.{flag, flags, WellFormed, table_bytes, IsTable, Sound}
 use Rattle.records.specs.Gathered.{is_of, data_of, owners, gathered, table_of}
-use Rattle.records.proofs.DataLaws.{is_of, data_none, data_same, data_other, length_data_append}
+use Rattle.records.proofs.DataLaws.{is_of_lem, data_none, data_same, data_other, length_data_append}
 use Rattle.records.proofs.OwnerLaws.{every_except, owners_none, owners_more, owners_distinct, Owns, owns_first}
 use Rattle.records.proofs.StoredLaws.{table_names, length_table_of}
 
@@ -44,7 +44,7 @@ owners_named (r ∷ rs) (Every.more w h) =
 module _ (n : List ℕ) (k : RecordType) where
   by_kind : (r : ResourceRecord) (rs : List ResourceRecord) (t : Bool) → is_of n k r ≡ t → RdataOf r.rtype r.rdata → Every (RdataOf k) (data_of n k rs) → Every (RdataOf k) (data_of n k (r ∷ rs))
   by_kind r rs true e w h =
-      subst (Every (RdataOf k)) (sym (data_same n k r rs e)) (Every.more (subst (λ (j : RecordType). RdataOf j r.rdata) (is_of n k r e).1 w) h)
+      subst (Every (RdataOf k)) (sym (data_same n k r rs e)) (Every.more (subst (λ (j : RecordType). RdataOf j r.rdata) (is_of_lem n k r e).1 w) h)
   by_kind r rs false e w h = subst (Every (RdataOf k)) (sym (data_other n k r rs e)) h
 
   -- what the records have of a type is data of that type

@@ -65,27 +65,27 @@ module _ (f : Family) (x : List ℕ) where
       go e (Standing.nowhere all stands new gone) =
           Standing.nowhere (place_later r rs e ∙ ap suc all) (stands_later f x r rs e ∙ stands)
           (λ n. placed_later f x n r rs e ∙ ap (λ (l : List ReverseEntry). r ∷ l) (new n)) (λ n. taken_later f x n r rs e ∙ ap (λ (l : List ReverseEntry). r ∷ l) (gone n))
-      go e (Standing.at p c q cut where-is stands here new gone) =
-          Standing.at (r ∷ p) c q (ap (λ (l : List ReverseEntry). r ∷ l) cut) (place_later r rs e ∙ ap suc where-is) (stands_later f x r rs e ∙ stands) here
+      go e (Standing.at p c q cut where_is stands here new gone) =
+          Standing.at (r ∷ p) c q (ap (λ (l : List ReverseEntry). r ∷ l) cut) (place_later r rs e ∙ ap suc where_is) (stands_later f x r rs e ∙ stands) here
           (λ n. placed_later f x n r rs e ∙ ap (λ (l : List ReverseEntry). r ∷ l) (new n))
           (λ n. taken_later f x n r rs e ∙ ap (λ (l : List ReverseEntry). r ∷ l) (gone n) ∙ kept_first r (eq_bytes c.name n) (p ++ q) (p ++ c ∷ q))
 
   -- refusal 46's test by the place
-  pub has_place : (k : ℕ) (rs : List ReverseEntry) → length rs ≤ k → has_place k f x rs ≡ ltb (place f x rs) k
+  pub has_place_lem : (k : ℕ) (rs : List ReverseEntry) → length rs ≤ k → has_place k f x rs ≡ ltb (place f x rs) k
   unfolding has_place
-  has_place k rs room = go (standing rs)
+  has_place_lem k rs room = go (standing rs)
     where
       go : Standing f x rs → (stands_at f x rs || ltb (length rs) k) ≡ ltb (place f x rs) k
       go (Standing.nowhere all stands new gone) = ap (λ (b : Bool). b || ltb (length rs) k) stands ∙ ap (λ (n : ℕ). ltb n k) (sym all)
-      go (Standing.at p r q cut where-is stands here new gone) =
-          ap (λ (b : Bool). b || ltb (length rs) k) stands ∙ sym (lt-ltb (place f x rs) k (omega (arith, where-is, ap length cut, length-append p (r ∷ q), room)))
+      go (Standing.at p r q cut where_is stands here new gone) =
+          ap (λ (b : Bool). b || ltb (length rs) k) stands ∙ sym (lt-ltb (place f x rs) k (omega (arith, where_is, ap length cut, length-append p (r ∷ q), room)))
 
   pub place_low : (rs : List ReverseEntry) → place f x rs ≤ length rs
   place_low rs = go (standing rs)
     where
       go : Standing f x rs → place f x rs ≤ length rs
       go (Standing.nowhere all stands new gone) = omega (arith, all)
-      go (Standing.at p r q cut where-is stands here new gone) = omega (arith, where-is, ap length cut, length-append p (r ∷ q))
+      go (Standing.at p r q cut where_is stands here new gone) = omega (arith, where_is, ap length cut, length-append p (r ∷ q))
 
 -- an entry of the address stands no earlier than the address
 place_most : (f : Family) (x : List ℕ) (p : List ReverseEntry) (r : ReverseEntry) (q : List ReverseEntry) → is_at f x r ≡ true → place f x (p ++ r ∷ q) ≤ length p
@@ -189,8 +189,8 @@ module _ (k : ℕ) (rs : List ReverseEntry) (b : List ℕ) (h : IsReverse k rs b
         go (Standing.nowhere all stands new gone) =
             let last : i ≡ length rs = is ∙ all in
             ap put last ∙ appended slot_bytes reverse_slot_size WellFormed length_slot k rs b h (omega (arith, last)) (entry_at f x n) ∙ ap (reverse_bytes k) (sym (new n))
-        go (Standing.at p r q cut where-is stands here new gone) =
-            ap put (is ∙ where-is)
+        go (Standing.at p r q cut where_is stands here new gone) =
+            ap put (is ∙ where_is)
             ∙ replaced slot_bytes reverse_slot_size WellFormed length_slot k p r q b (subst (λ (l : List ReverseEntry). IsReverse k l b) cut h) (entry_at f x n)
             ∙ ap (reverse_bytes k) (sym (new n))
 
@@ -201,14 +201,14 @@ module _ (k : ℕ) (rs : List ReverseEntry) (b : List ℕ) (h : IsReverse k rs b
       where
         go : Standing f x rs → b ≡ reverse_bytes k (taken f x n rs)
         go (Standing.nowhere _ stands new gone) = h.form ∙ ap (reverse_bytes k) (sym (gone n))
-        go (Standing.at p r q cut where-is stands here new gone) = absurd (omega (arith, all, where-is, ap length cut, length-append p (r ∷ q)))
+        go (Standing.at p r q cut where_is stands here new gone) = absurd (omega (arith, all, where_is, ap length cut, length-append p (r ∷ q)))
 
     module _ (i : ℕ) (is : i ≡ place f x rs) (lt : i < length rs) where
       -- the entry there
       cut_there : (p : List ReverseEntry) (r : ReverseEntry) (q : List ReverseEntry) → rs ≡ p ++ r ∷ q → place f x rs ≡ length p → (in_slot i lt).entry ≡ r
-      cut_there p r q cut where-is =
+      cut_there p r q cut where_is =
           let s = in_slot i lt in
-          one (take i rs) p s.entry r s.later q (s.before ∙ is ∙ where-is) (sym s.cut ∙ cut)
+          one (take i rs) p s.entry r s.later q (s.before ∙ is ∙ where_is) (sym s.cut ∙ cut)
         where
           one : (p o : List ReverseEntry) (e r : ReverseEntry) (l q : List ReverseEntry) → length p ≡ length o → p ++ e ∷ l ≡ o ++ r ∷ q → e ≡ r
           one p o e r l q long same = head_of (append_split {a = p} {b = o} long same).1
@@ -223,8 +223,8 @@ module _ (k : ℕ) (rs : List ReverseEntry) (b : List ℕ) (h : IsReverse k rs b
         where
           go : Standing f x rs → b ≡ reverse_bytes k (taken f x n rs)
           go (Standing.nowhere all stands new gone) = h.form ∙ ap (reverse_bytes k) (sym (gone n))
-          go (Standing.at p r q cut where-is stands here new gone) =
-              let same = ap (λ (e : ReverseEntry). eq_bytes e.name n) (cut_there p r q cut where-is) in
+          go (Standing.at p r q cut where_is stands here new gone) =
+              let same = ap (λ (e : ReverseEntry). eq_bytes e.name n) (cut_there p r q cut where_is) in
               h.form ∙ ap (reverse_bytes k) (cut ∙ sym (ap (λ (t : Bool). cond t (p ++ q) (p ++ r ∷ q)) (sym same ∙ other)) ∙ sym (gone n))
 
       pub taken_this : (n : List ℕ) → eq_bytes (in_slot i lt).entry.name n ≡ true → closed_up reverse_slot_size b (reverse_slot_size * i) ≡ reverse_bytes k (taken f x n rs)
@@ -233,9 +233,9 @@ module _ (k : ℕ) (rs : List ReverseEntry) (b : List ℕ) (h : IsReverse k rs b
         where
           go : Standing f x rs → closed_up reverse_slot_size b (reverse_slot_size * i) ≡ reverse_bytes k (taken f x n rs)
           go (Standing.nowhere all stands new gone) = absurd (omega (arith, all, is))
-          go (Standing.at p r q cut where-is stands here new gone) =
-              let same = ap (λ (e : ReverseEntry). eq_bytes e.name n) (cut_there p r q cut where-is) in
-              ap (λ (j : ℕ). closed_up reverse_slot_size b (reverse_slot_size * j)) (is ∙ where-is)
+          go (Standing.at p r q cut where_is stands here new gone) =
+              let same = ap (λ (e : ReverseEntry). eq_bytes e.name n) (cut_there p r q cut where_is) in
+              ap (λ (j : ℕ). closed_up reverse_slot_size b (reverse_slot_size * j)) (is ∙ where_is)
               ∙ taken_out slot_bytes reverse_slot_size WellFormed length_slot k p r q b (subst (λ (l : List ReverseEntry). IsReverse k l b) cut h)
               ∙ ap (reverse_bytes k) (sym (ap (λ (t : Bool). cond t (p ++ q) (p ++ r ∷ q)) (sym same ∙ own)) ∙ sym (gone n))
 
@@ -256,8 +256,8 @@ module _ (k : ℕ) (rs : List ReverseEntry) (b : List ℕ) (h : IsReverse k rs b
         where
           go : Standing f x rs → r ≤ place f x rs
           go (Standing.nowhere all stands new gone) = omega (arith, all, first.low)
-          go (Standing.at p c q cut where-is stands here new gone) =
-              by_ltb (length p) r (λ lt. absurd (first.before (length p) lt (key_of_slot (length p) c (well_at p c q cut) (slot_at p c q (length p) cut refl) ∙ key_at_lem f x c here))) (λ ge. omega (arith, where-is))
+          go (Standing.at p c q cut where_is stands here new gone) =
+              by_ltb (length p) r (λ lt. absurd (first.before (length p) lt (key_of_slot (length p) c (well_at p c q cut) (slot_at p c q (length p) cut refl) ∙ key_at_lem f x c here))) (λ ge. omega (arith, where_is))
 
       pub first_key_place : r ≡ place f x rs
       first_key_place = omega (arith, not_later, not_earlier)

@@ -3,7 +3,7 @@
 -- so is an unused slot. Used slots come first. The number of addresses is a parameter; the calls have `most_addresses` (Sizes.antt).
 use Rattle.std.specs.Prelude.{ℕ, ◌-◌, ◌≡◌, List, ◌∷◌, ◌++◌, length, replicate}
 use Rattle.base.specs.Bytes.{padded}
-use Rattle.base.specs.Rows.{rowBytes, IsRow}
+use Rattle.base.specs.Rows.{row_bytes, IsRow}
 use Rattle.name.specs.Name.{Proper, canonical}
 use Rattle.slots.specs.Entry.{address_size}
 use Rattle.slots.specs.declared.Family.{Family}
@@ -35,7 +35,7 @@ pub record WellFormed (r : ReverseEntry) : Type 0 where
 
 -- the bytes of a reverse side that has room for so many addresses
 unfoldable pub reverse_bytes : ℕ → List ReverseEntry → List ℕ
-reverse_bytes limit rs = rowBytes slot_bytes reverse_slot_size limit rs
+reverse_bytes limit rs = row_bytes slot_bytes reverse_slot_size limit rs
 
 -- the bytes b are those of the entries rs: every slot is well formed, and the used ones come first
 abbrev pub IsReverse : ℕ → List ReverseEntry → List ℕ → Type 0

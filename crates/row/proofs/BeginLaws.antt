@@ -29,7 +29,7 @@ module _ (t : List ℕ) (places : ℕ) (a : Answer) (is : Checks t a) where
     begins_short h = go is.0 is.1 (sym is.2 ∙ e)
       where
         go : (o : Outcome) → Checked limit t o → counted o ≡ Accepted n → Begins t places (refusing row_short 0)
-        go (accepted rs) c k = (refused row_short 0, Answered.Short-row c (omega (arith, ap value k, h)), refl)
+        go (accepted rs) c k = (refused row_short 0, Answered.short_row c (omega (arith, ap value k, h)), refl)
         go (refused m q) c k = absurd (accepted≢refused (sym k))
 
     pub begins_whole : n ≤ places → Begins t places (record { answer = Accepted n; at = 0; count = 0; total = n; going = ltb 0 n })

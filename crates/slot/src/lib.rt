@@ -5,7 +5,7 @@ ghost use Rattle.std.specs.Prelude.{◌≡◌, ◌≤◌, length, take, drop};
 ghost use Rattle.base.specs.Bytes.{eq_bytes};
 ghost use Rattle.base.specs.Family.{KnownFamily};
 ghost use Rattle.base.specs.Logic.{Decides};
-ghost use Rattle.slots.specs.Effect.{deleted, hasAddress};
+ghost use Rattle.slots.specs.Effect.{deleted, has_address};
 ghost use Rattle.slots.specs.Entry.{address_of, address_size, family_of, other};
 ghost use Rattle.slots.specs.Fields.{in_field, there};
 ghost use Rattle.slots.specs.Form.{IsSlot};
@@ -172,7 +172,7 @@ pub fn has(slot: &[u8], rtype: Rtype) -> bool
 // What does a remove of this address by the client with this DHCID come to? Nothing is written.
 pub fn removal(slot: &[u8], dhcid: &[u8], family: Family, address: &[u8]) -> Removal
     requires { IsSlot slot.now }
-    ensures { OfSlot slot.now (λ e. result ≡ removal (holding eq_bytes e.holder dhcid.now) (is_address (address_of family e) address.now) (hasAddress (deleted family e))) }
+    ensures { OfSlot slot.now (λ e. result ≡ removal (holding eq_bytes e.holder dhcid.now) (is_address (address_of family e) address.now) (has_address (deleted family e))) }
 {
     let holder = holding(slot, dhcid);
     match holder {

@@ -65,7 +65,7 @@ pub fn refresh(slot: &mut [u8], family: Family, address: &[u8])
 // Another client takes the name over: of the former one's addresses none stays.
 pub fn take_over(slot: &mut [u8], dhcid: &[u8], family: Family, address: &[u8])
     requires { (IsSlot slot.old) × (length dhcid.now ≡ 35) × (length address.now ≡ address_size family) }
-    ensures { OfSlot slot.old (λ e. slot.new ≡ slot_bytes (effect.takenOver dhcid.now family address.now e)) }
+    ensures { OfSlot slot.old (λ e. slot.new ≡ slot_bytes (effect.taken_over dhcid.now family address.now e)) }
 {
     put_field(slot, HAS_DHCID, DHCID, dhcid);
     clear_address(slot, other(family));

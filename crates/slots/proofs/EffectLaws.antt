@@ -12,8 +12,8 @@ use lib.Seq.{length-take-le, take-take}
 use Rattle.base.specs.Bytes.{overlay, eq_bytes, padded}
 use Rattle.base.proofs.Bytes.{set_overlay}
 use Rattle.base.proofs.Tests.{by_ltb}
-use Rattle.slots.specs.Effect.{deleted, hasAddress}
-use Rattle.slots.specs.Entry.{Entry, address_of, address_size, other, withAddress, withHolder}
+use Rattle.slots.specs.Effect.{deleted, has_address}
+use Rattle.slots.specs.Entry.{Entry, address_of, address_size, other, with_address, with_holder}
 use Rattle.slots.specs.Fields.{bare, there, in_field, with_field}
 use Rattle.slots.specs.Form.{TableEntry, WellFormed, field, flag, flags, slot_bytes, IsSlot}
 use Rattle.slots.specs.Promise.{is_set, flag_set, flag_cleared, field_put, field_cleared, holding, is_address}
@@ -73,12 +73,12 @@ address_in V4 k e is = ap (λ (q : Rtype). in_field q e) is
 address_in V6 k e is = ap (λ (q : Rtype). in_field q e) is
 
 -- where one family's address is deleted, an address is left exactly if the other family's is there
-pub left_address : {H : Type 0} (f : Family) (e : Entry H) → hasAddress (deleted f e) ≡ there (address_of (other f) e)
+pub left_address : {H : Type 0} (f : Family) (e : Entry H) → has_address (deleted f e) ≡ there (address_of (other f) e)
 left_address V4 e = refl
 left_address V6 e = or-false (there e.a)
 
 -- and that is in the field of its type
-pub left_in : (f g : Family) (k : Rtype) (e : TableEntry) → g ≡ other f → k ≡ address_type g → there (in_field k e) ≡ hasAddress (deleted f e)
+pub left_in : (f g : Family) (k : Rtype) (e : TableEntry) → g ≡ other f → k ≡ address_type g → there (in_field k e) ≡ has_address (deleted f e)
 left_in f g k e is of = ap there (address_in g k e of) ∙ ap (λ (h : Family). there (address_of h e)) is ∙ sym (left_address f e)
 
 -- ---- a slot that is being written: it need not have a flag yet
@@ -121,23 +121,23 @@ module _ {e : TableEntry} {b : List ℕ} (s : SlotOf e b) where
   field_flag Aaaa = ap (is_set 2) flags_at ∙ flag_aaaa e
   field_flag Dhcid = ap (is_set 4) flags_at ∙ flag_dhcid e
 
-  pub field_at : (k : Rtype) → take (field_size k) (drop (field_at k) b) ≡ field (field_size k) (in_field k e)
-  field_at A = ap (λ (t : List ℕ). take 4 (drop 257 t)) s.form ∙ a_of e s.sizes
-  field_at Aaaa = ap (λ (t : List ℕ). take 16 (drop 261 t)) s.form ∙ aaaa_of e s.sizes
-  field_at Dhcid = ap (λ (t : List ℕ). take 35 (drop 277 t)) s.form ∙ dhcid_of e s.sizes
+  pub field_at_lem : (k : Rtype) → take (field_size k) (drop (field_at k) b) ≡ field (field_size k) (in_field k e)
+  field_at_lem A = ap (λ (t : List ℕ). take 4 (drop 257 t)) s.form ∙ a_of e s.sizes
+  field_at_lem Aaaa = ap (λ (t : List ℕ). take 16 (drop 261 t)) s.form ∙ aaaa_of e s.sizes
+  field_at_lem Dhcid = ap (λ (t : List ℕ). take 35 (drop 277 t)) s.form ∙ dhcid_of e s.sizes
 
   -- the 35 bytes x from a field's first on begin with it
   pub data_first : (k : Rtype) {x : List ℕ} → x ≡ take 35 (drop (field_at k) b) → (length x ≡ 35) × (take (field_size k) x ≡ field (field_size k) (in_field k e))
   data_first k is = (
     ap length is ∙ length-take-le 35 (drop (field_at k) b) (simp length-drop (omega (arith, long, field_offset_most k))),
-    ap (take (field_size k)) is ∙ take-take (field_size k) 35 (drop (field_at k) b) (field_size_most k) ∙ field_at k,
+    ap (take (field_size k)) is ∙ take-take (field_size k) 35 (drop (field_at k) b) (field_size_most k) ∙ field_at_lem k,
   )
 
   pub held_flag : is_set 4 (get_or b 256 0) ≡ there e.holder
   held_flag = field_flag Dhcid
 
   pub holder_at : take 35 (drop 277 b) ≡ field 35 e.holder
-  holder_at = field_at Dhcid
+  holder_at = field_at_lem Dhcid
 
   -- other flags
   flags_by : (g : ℕ → ℕ) (v : ℕ) → g (flags e) ≡ v
@@ -149,23 +149,23 @@ module _ {e : TableEntry} {b : List ℕ} (s : SlotOf e b) where
       ∙ write_flags (length e.name) _ (flags e) _ _ _ s.sizes v
 
   -- b' has one field put, or cleared
-  pub field_put : (k : Rtype) (x : List ℕ) {b' : List ℕ} → length x ≡ field_size k → b' ≡ field_put b (field_bit k) (field_at k) x → SlotOf (with_field k x e) b'
+  pub field_put_lem : (k : Rtype) (x : List ℕ) {b' : List ℕ} → length x ≡ field_size k → b' ≡ field_put b (field_bit k) (field_at k) x → SlotOf (with_field k x e) b'
   unfolding slot_bytes flags field_put
-  field_put A x size is =
+  field_put_lem A x size is =
       let v = flags (with_field A x e) in
       let sum : flag_set 1 (flags e) ≡ v = flag_set_is 1 (flag 2 e.aaaa + flag 4 e.holder) (flags e) e.a (flag_a e) (omega arith) ∙ omega arith in
       record {
         sizes = record { name = s.sizes.name; a = size; aaaa = s.sizes.aaaa; dhcid = s.sizes.dhcid };
         form = is ∙ ap (λ (t : List ℕ). overlay t 257 x) (flags_by (flag_set 1) v sum) ∙ write_a (length e.name) _ v _ _ _ s.sizes x size;
       }
-  field_put Aaaa x size is =
+  field_put_lem Aaaa x size is =
       let v = flags (with_field Aaaa x e) in
       let sum : flag_set 2 (flags e) ≡ v = flag_set_is 2 (flag 1 e.a + flag 4 e.holder) (flags e) e.aaaa (flag_aaaa e) (omega arith) ∙ omega arith in
       record {
         sizes = record { name = s.sizes.name; a = s.sizes.a; aaaa = size; dhcid = s.sizes.dhcid };
         form = is ∙ ap (λ (t : List ℕ). overlay t 261 x) (flags_by (flag_set 2) v sum) ∙ write_aaaa (length e.name) _ v _ _ _ s.sizes x size;
       }
-  field_put Dhcid x size is =
+  field_put_lem Dhcid x size is =
       let v = flags (with_field Dhcid x e) in
       let sum : flag_set 4 (flags e) ≡ v = flag_set_is 4 (flag 1 e.a + flag 2 e.aaaa) (flags e) e.holder (flag_dhcid e) (omega arith) ∙ omega arith in
       record {
@@ -173,24 +173,24 @@ module _ {e : TableEntry} {b : List ℕ} (s : SlotOf e b) where
         form = is ∙ ap (λ (t : List ℕ). overlay t 277 x) (flags_by (flag_set 4) v sum) ∙ write_dhcid (length e.name) _ v _ _ _ s.sizes x size;
       }
 
-  pub address_put : (f : Family) (x : List ℕ) {b' : List ℕ} → length x ≡ address_size f → b' ≡ field_put b (field_bit (address_type f)) (field_at (address_type f)) x → SlotOf (withAddress f (some x) e) b'
-  address_put V4 x size is = field_put A x size is
-  address_put V6 x size is = field_put Aaaa x size is
+  pub address_put : (f : Family) (x : List ℕ) {b' : List ℕ} → length x ≡ address_size f → b' ≡ field_put b (field_bit (address_type f)) (field_at (address_type f)) x → SlotOf (with_address f (some x) e) b'
+  address_put V4 x size is = field_put_lem A x size is
+  address_put V6 x size is = field_put_lem Aaaa x size is
 
-  pub holder_put : (d : List ℕ) {b' : List ℕ} → length d ≡ 35 → b' ≡ field_put b 4 277 d → SlotOf (withHolder d e) b'
-  holder_put d size is = field_put Dhcid d size is
+  pub holder_put : (d : List ℕ) {b' : List ℕ} → length d ≡ 35 → b' ≡ field_put b 4 277 d → SlotOf (with_holder d e) b'
+  holder_put d size is = field_put_lem Dhcid d size is
 
-  pub address_cleared : (f : Family) {b' : List ℕ} → b' ≡ field_cleared b (field_bit (address_type f)) (field_at (address_type f)) (address_size f) → SlotOf (withAddress f none e) b'
+  pub address_cleared : (f : Family) {b' : List ℕ} → b' ≡ field_cleared b (field_bit (address_type f)) (field_at (address_type f)) (address_size f) → SlotOf (with_address f none e) b'
   unfolding slot_bytes flags field_cleared
   address_cleared V4 is =
-      let v = flags (withAddress V4 none e) in
+      let v = flags (with_address V4 none e) in
       let sum : flag_cleared 1 (flags e) ≡ v = flag_cleared_is 1 (flag 2 e.aaaa + flag 4 e.holder) (flags e) e.a (flag_a e) (omega arith) ∙ omega arith in
       record {
         sizes = record { name = s.sizes.name; a = refl; aaaa = s.sizes.aaaa; dhcid = s.sizes.dhcid };
         form = is ∙ ap (λ (t : List ℕ). overlay t 257 (replicate 4 0)) (flags_by (flag_cleared 1) v sum) ∙ write_a (length e.name) _ v _ _ _ s.sizes (replicate 4 0) refl;
       }
   address_cleared V6 is =
-      let v = flags (withAddress V6 none e) in
+      let v = flags (with_address V6 none e) in
       let sum : flag_cleared 2 (flags e) ≡ v = flag_cleared_is 2 (flag 1 e.a + flag 4 e.holder) (flags e) e.aaaa (flag_aaaa e) (omega arith) ∙ omega arith in
       record {
         sizes = record { name = s.sizes.name; a = s.sizes.a; aaaa = refl; dhcid = s.sizes.dhcid };

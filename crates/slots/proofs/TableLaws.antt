@@ -9,7 +9,7 @@ use lib.ListN.{length, take, drop, get_or, replicate, length-replicate, drop_of_
 use lib.Seq.{drop-drop, take-take, get_or-take, get_or-drop}
 use Rattle.base.specs.Bytes.{overlay}
 use Rattle.base.specs.Logic.{Every, Decides}
-use Rattle.base.specs.Rows.{inSlots, rowBytes, IsRow}
+use Rattle.base.specs.Rows.{in_slots, row_bytes, IsRow}
 use Rattle.base.proofs.Bytes.{overlay_to_end}
 use Rattle.base.proofs.Lists.{drop_take}
 use Rattle.base.proofs.RowLaws.{row_none, length_slots, length_row, unused_first, used_first, rest_row, RowReached, row_reached_none, row_reached_more, row_no_slot, row_unused_decides, row_reached_all}
@@ -23,13 +23,13 @@ use Rattle.slots.proofs.NameLaws.{EntryAt, entry_at}
 
 -- ---- a table is a row of slots (base, specs/Rows.antt), and what holds of rows holds of it
 
-used_are : (t : List TableEntry) → used_slots t ≡ inSlots slot_bytes t
-unfolding used_slots inSlots
+used_are : (t : List TableEntry) → used_slots t ≡ in_slots slot_bytes t
+unfolding used_slots in_slots
 used_are [] = refl
 used_are (e ∷ t) = ap (λ (b : List ℕ). slot_bytes e ++ b) (used_are t)
 
-pub bytes_are : (k : ℕ) (t : List TableEntry) → table_bytes k t ≡ rowBytes slot_bytes slot_size k t
-unfolding table_bytes rowBytes
+pub bytes_are : (k : ℕ) (t : List TableEntry) → table_bytes k t ≡ row_bytes slot_bytes slot_size k t
+unfolding table_bytes row_bytes
 bytes_are k t = ap (λ (b : List ℕ). b ++ replicate (slot_size * (k - length t)) 0) (used_are t)
 
 pub as_row : {k : ℕ} {t : List TableEntry} {b : List ℕ} → IsTable k t b → IsRow slot_bytes slot_size WellFormed k t b

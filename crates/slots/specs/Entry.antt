@@ -36,13 +36,13 @@ module _ {H : Type 0} where
   address_of V6 e = e.aaaa
 
   -- the entry with another address of a family, or with none
-  abbrev pub withAddress : Family → Option (List ℕ) → Entry H → Entry H
-  withAddress V4 x e = record { name = e.name; a = x; aaaa = e.aaaa; holder = e.holder }
-  withAddress V6 x e = record { name = e.name; a = e.a; aaaa = x; holder = e.holder }
+  abbrev pub with_address : Family → Option (List ℕ) → Entry H → Entry H
+  with_address V4 x e = record { name = e.name; a = x; aaaa = e.aaaa; holder = e.holder }
+  with_address V6 x e = record { name = e.name; a = e.a; aaaa = x; holder = e.holder }
 
   -- the entry with another holder
-  abbrev pub withHolder : H → Entry H → Entry H
-  withHolder h e = record { name = e.name; a = e.a; aaaa = e.aaaa; holder = some h }
+  abbrev pub with_holder : H → Entry H → Entry H
+  with_holder h e = record { name = e.name; a = e.a; aaaa = e.aaaa; holder = some h }
 
   -- ---- where a name stands
 

@@ -18,8 +18,8 @@ use Rattle.base.proofs.Lists.{map_append}
 use Rattle.base.proofs.Tests.{eq_bytes_true, eq_eq_bytes, ne_eq_bytes}
 use Rattle.base.proofs.Theorems.{one_fault, no_fault}
 use Rattle.name.specs.Name.{Proper, canonical}
-use Rattle.slots.specs.Effect.{entered, refreshed, takenOver, deleted}
-use Rattle.slots.specs.Entry.{names, address_of, address_size, other, withAddress, withHolder}
+use Rattle.slots.specs.Effect.{entered, refreshed, taken_over, deleted}
+use Rattle.slots.specs.Entry.{names, address_of, address_size, other, with_address, with_holder}
 use Rattle.slots.specs.Form.{TableEntry, WellFormed, table_bytes, IsTable, Sound}
 use Rattle.slots.specs.Promise.{is_address}
 use Rattle.slots.specs.declared.Family.{Family}
@@ -63,19 +63,19 @@ left_sound limit left u s e = record { table = u; slots = record { each = s.each
 same_holder : (k d : List ℕ) → eq_bytes k d ≡ true → some k ≡ some d
 same_holder k d e = ap some (eq_bytes_true k d e)
 
-at_address : (f : Family) (x : List ℕ) (e : TableEntry) → address_of f (withAddress f (some x) e) ≡ some x
+at_address : (f : Family) (x : List ℕ) (e : TableEntry) → address_of f (with_address f (some x) e) ≡ some x
 at_address V4 x e = refl
 at_address V6 x e = refl
 
 module _ (f : Family) (x : List ℕ) (e : TableEntry) where
-  put_holder : (withAddress f (some x) e).holder ≡ e.holder
+  put_holder : (with_address f (some x) e).holder ≡ e.holder
   put_holder = go f
     where
-      go : (g : Family) → (withAddress g (some x) e).holder ≡ e.holder
+      go : (g : Family) → (with_address g (some x) e).holder ≡ e.holder
       go V4 = refl
       go V6 = refl
 
-taken_holder : (d : List ℕ) (f : Family) (x : List ℕ) (e : TableEntry) → (takenOver d f x e).holder ≡ some d
+taken_holder : (d : List ℕ) (f : Family) (x : List ℕ) (e : TableEntry) → (taken_over d f x e).holder ≡ some d
 taken_holder d V4 x e = refl
 taken_holder d V6 x e = refl
 
@@ -96,7 +96,7 @@ module _ (limit : ℕ) (b : List ℕ) (s : Sound limit b) (n : List ℕ) where
   one_found c e p q = some-injective c e (sym p ∙ q)
 
   held_both : (c e : TableEntry) (k : List ℕ) → find n s.table ≡ some c → find n s.table ≡ some e → c.holder ≡ none → e.holder ≡ some k → ⊥
-  held_both c e k p q by-nobody by-k = none-ne-some k (sym by-nobody ∙ ap (λ (y : TableEntry). y.holder) (one_found c e p q) ∙ by-k)
+  held_both c e k p q by_nobody by_k = none-ne-some k (sym by_nobody ∙ ap (λ (y : TableEntry). y.holder) (one_found c e p q) ∙ by_k)
 
   known_sound : SoundEntries limit s.table
   known_sound = record { each = s.slots.each; room = s.slots.room; distinct = s.distinct }
@@ -130,7 +130,7 @@ module _ (limit : ℕ) (b : List ℕ) (s : Sound limit b) (n : List ℕ) where
         subst (Left limit n s.table) (sym e) (with_change (Accepted 1) (refreshed f x) (keeps_name f (some x)) (λ c' g w. refreshed_well_formed d f x good size c' w))
     by_adding o (Adding.first_wins c k found holder differs p e) = subst (Left limit n s.table) (sym e) (as_it_was (Refused 30 0))
     by_adding o (Adding.latest_wins c k found holder differs p e) =
-        subst (Left limit n s.table) (sym e) (with_change (Accepted 2) (takenOver d f x) (taken_keeps_name d f x) (λ c' g w. taken_well_formed d f x good size c' w))
+        subst (Left limit n s.table) (sym e) (with_change (Accepted 2) (taken_over d f x) (taken_keeps_name d f x) (λ c' g w. taken_well_formed d f x good size c' w))
 
     pub add_leaves : Left limit n s.table (add limit eq_bytes s.table n d f x policy)
     add_leaves = by_adding (add limit eq_bytes s.table n d f x policy) (add_case eq_bytes s.table n d f x limit policy)
@@ -143,7 +143,7 @@ module _ (limit : ℕ) (b : List ℕ) (s : Sound limit b) (n : List ℕ) where
     by_order o (Adding.by_hand c found holder e) = inl (ap (λ (y : StepOutcome (List ℕ)). names y.table) e)
     by_order o (Adding.same_client c k found holder same e) = inl (ap (λ (y : StepOutcome (List ℕ)). names y.table) e ∙ names_changed n (refreshed f x) (keeps_name f (some x)) s.table)
     by_order o (Adding.first_wins c k found holder differs p e) = inl (ap (λ (y : StepOutcome (List ℕ)). names y.table) e)
-    by_order o (Adding.latest_wins c k found holder differs p e) = inl (ap (λ (y : StepOutcome (List ℕ)). names y.table) e ∙ names_changed n (takenOver d f x) (taken_keeps_name d f x) s.table)
+    by_order o (Adding.latest_wins c k found holder differs p e) = inl (ap (λ (y : StepOutcome (List ℕ)). names y.table) e ∙ names_changed n (taken_over d f x) (taken_keeps_name d f x) s.table)
 
     pub add_order : Ordered n (names s.table) (names (add limit eq_bytes s.table n d f x policy).table)
     add_order = by_order (add limit eq_bytes s.table n d f x policy) (add_case eq_bytes s.table n d f x limit policy)
@@ -181,10 +181,10 @@ module _ (limit : ℕ) (b : List ℕ) (s : Sound limit b) (n : List ℕ) where
     installed_by o (Adding.latest_wins c k found holder differs p e) m =
         subst Stands (sym e)
         (record {
-          entry = takenOver d f x c;
-          stands = find_changed n (takenOver d f x) (taken_keeps_name d f x) s.table c found;
+          entry = taken_over d f x c;
+          stands = find_changed n (taken_over d f x) (taken_keeps_name d f x) s.table c found;
           holder = taken_holder d f x c;
-          address = at_address f x (withAddress (other f) none (withHolder d c));
+          address = at_address f x (with_address (other f) none (with_holder d c));
           value = 2;
           answer = refl;
         })
@@ -199,7 +199,7 @@ module _ (limit : ℕ) (b : List ℕ) (s : Sound limit b) (n : List ℕ) where
         let one : c ≡ c' = one_found c c' found g in
         let same : some k ≡ some d = sym holder ∙ ap (λ (y : TableEntry). y.holder) one ∙ h in
         absurd (true≢false (sym (eq_eq_bytes k d (some-injective k d same)) ∙ differs))
-    installed_by o (Adding.first_wins c k found holder differs p e) (MayInstall.latest c' k' g h other-one q) = absurd (omega arith)
+    installed_by o (Adding.first_wins c k found holder differs p e) (MayInstall.latest c' k' g h other_one q) = absurd (omega arith)
 
     pub may_install : (o : StepOutcome (List ℕ)) → Adding eq_bytes s.table n d f x limit policy o → KnownPolicy policy → (v : ℕ) → o.answer ≡ Accepted v → MayInstall limit s.table n d policy
     may_install o (Adding.put_last found room e) known v a = MayInstall.unused found room
@@ -226,8 +226,8 @@ module _ (limit : ℕ) (b : List ℕ) (s : Sound limit b) (n : List ℕ) where
     add_gives r e (Installs.same c found holder) =
         outcome_is 1 (changed n (refreshed f x) s.table) (rw (found, holder, eq_eq_bytes d d refl) refl) refl (find_changed n (refreshed f x) (keeps_name f (some x)) s.table c found)
     add_gives r e (Installs.latest c k found holder differs p) =
-        outcome_is 2 (changed n (takenOver d f x) s.table) (rw (found, holder, ne_eq_bytes k d differs, p) refl) refl
-        (find_changed n (takenOver d f x) (taken_keeps_name d f x) s.table c found)
+        outcome_is 2 (changed n (taken_over d f x) s.table) (rw (found, holder, ne_eq_bytes k d differs, p) refl) refl
+        (find_changed n (taken_over d f x) (taken_keeps_name d f x) s.table c found)
 
   -- ---- clear
 
@@ -342,7 +342,7 @@ module _ (t : List TableEntry) (n d : List ℕ) (f : Family) (x : List ℕ) (c :
 
     pub remove_accepted : (o : StepOutcome (List ℕ)) → Removing eq_bytes t n d f x o → o.answer ≡ Accepted 0
     remove_accepted o (Removing.not_held found e) = absurd (some-ne-none c (sym stood ∙ found))
-    remove_accepted o (Removing.by_hand c' found none-held e) = absurd (none-ne-some d (sym none-held ∙ ap (λ (y : TableEntry). y.holder) (it_is c' found) ∙ holder))
+    remove_accepted o (Removing.by_hand c' found none_held e) = absurd (none-ne-some d (sym none_held ∙ ap (λ (y : TableEntry). y.holder) (it_is c' found) ∙ holder))
     remove_accepted o (Removing.another c' k found held differs e) = absurd (true≢false (sym (eq_eq_bytes k d (this_holder c' k found held)) ∙ differs))
     remove_accepted o (Removing.differs c' k found held same no_such e) =
         absurd (true≢false (sym (has_address (address_of f c') x (ap (address_of f) (it_is c' found) ∙ address)) ∙ no_such))

@@ -10,14 +10,14 @@ use borrow.Author.Tests.{lt-ltb, le-ltb}
 use Rattle.base.specs.Bytes.{eq_bytes, closed_up}
 use Rattle.base.specs.declared.Answer.{Answer}
 use Rattle.base.specs.declared.Answer.TheVariants.{Accepted, Refused}
-use Rattle.slots.specs.Effect.{entered, refreshed, takenOver}
+use Rattle.slots.specs.Effect.{entered, refreshed, taken_over}
 use Rattle.slots.specs.Form.{TableEntry, slot_bytes, table_bytes, IsTable}
 use Rattle.slots.specs.Promise.{holding}
 use Rattle.slots.specs.Sizes.{slot_size}
 use Rattle.slots.specs.declared.Family.{Family}
 use Rattle.slots.specs.declared.Holding.{Holding}
 use Rattle.slots.specs.declared.Holding.TheVariants.{ByHand, ByThis, ByAnother}
-use Rattle.table.specs.Steps.{StepOutcome, find, adding, accepted_with, refusedWith, add, clear}
+use Rattle.table.specs.Steps.{StepOutcome, find, adding, accepted_with, refused_with, add, clear}
 use Rattle.table.specs.Promise.{AtEntry, in_slot, LeavesSlot, added_at, Results}
 use Rattle.table.proofs.StepLaws.{HeldAt, FreeAt, FullUp}
 
@@ -28,7 +28,7 @@ pub record Between (p r : List TableEntry) (o : StepOutcome (List ℕ)) (a : AtE
 
 module _ (p r : List TableEntry) (e : TableEntry) (t : List TableEntry) (cut : t ≡ p ++ e ∷ r) where
   contested_at : (taken : TableEntry) (u : List TableEntry) → u ≡ p ++ taken ∷ r → (b : Bool)
-      → Between p r (cond b (refusedWith 30 t) (accepted_with 2 u)) (cond b (record { answer = Refused 30 0; entry = e }) (record { answer = Accepted 2; entry = taken }))
+      → Between p r (cond b (refused_with 30 t) (accepted_with 2 u)) (cond b (record { answer = Refused 30 0; entry = e }) (record { answer = Accepted 2; entry = taken }))
   contested_at taken u is true = record { answer = refl; table = cut }
   contested_at taken u is false = record { answer = refl; table = is }
 
@@ -43,19 +43,19 @@ module _ (k : ℕ) (n : List ℕ) (t : List TableEntry) (b : List ℕ) (r : Answ
   at_results at h o a m l = record { answer = l.answered ∙ sym m.answer; table = l.table ∙ h.put a.entry ∙ ap (table_bytes k) (sym m.table) }
 
   -- nothing changed
-  pub unchanged_results : (num : ℕ) → IsTable k t b → r ≡ Refused num 0 → left ≡ b → Results k (refusedWith num t) r left
+  pub unchanged_results : (num : ℕ) → IsTable k t b → r ≡ Refused num 0 → left ≡ b → Results k (refused_with num t) r left
   unchanged_results num h a e = record { answer = a; table = e ∙ h.form }
 
   module _ (d : List ℕ) (f : Family) (x : List ℕ) (policy : ℕ) where
     pub add_held_results : (at : ℕ) (h : HeldAt k n t b at)
-        → LeavesSlot b at (added_at (holding eq_bytes h.entry.holder d) policy h.entry (refreshed f x h.entry) (takenOver d f x h.entry)) r left
+        → LeavesSlot b at (added_at (holding eq_bytes h.entry.holder d) policy h.entry (refreshed f x h.entry) (taken_over d f x h.entry)) r left
         → Results k (add k eq_bytes t n d f x policy) r left
     unfolding add
     add_held_results at h l =
         rw h.found
         (at_results at h _ _
-        (adding_at h.before h.after h.entry t h.cut (holding eq_bytes h.entry.holder d) policy (refreshed f x h.entry) (takenOver d f x h.entry) _ _
-        (h.change (refreshed f x)) (h.change (takenOver d f x))) l)
+        (adding_at h.before h.after h.entry t h.cut (holding eq_bytes h.entry.holder d) policy (refreshed f x h.entry) (taken_over d f x h.entry) _ _
+        (h.change (refreshed f x)) (h.change (taken_over d f x))) l)
 
     pub add_free_results : (at : ℕ) → FreeAt k n t b at → r ≡ Accepted 0 → left ≡ in_slot b at (slot_bytes (entered n d f x)) → Results k (add k eq_bytes t n d f x policy) r left
     unfolding add

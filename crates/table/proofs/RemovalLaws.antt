@@ -8,7 +8,7 @@ use native.Mathlib.Omega.{arith}
 use lib.ListN.{length}
 use Rattle.base.specs.Bytes.{eq_bytes}
 use Rattle.base.specs.declared.Answer.{Answer}
-use Rattle.slots.specs.Effect.{deleted, hasAddress}
+use Rattle.slots.specs.Effect.{deleted, has_address}
 use Rattle.slots.specs.Entry.{position, address_of}
 use Rattle.slots.specs.Form.{TableEntry, IsSlot, table_bytes, IsTable}
 use Rattle.slots.specs.Promise.{holding, is_address, removal}
@@ -16,7 +16,7 @@ use Rattle.slots.specs.Sizes.{slot_size}
 use Rattle.slots.specs.declared.Family.{Family}
 use Rattle.slots.specs.declared.Holding.{Holding}
 use Rattle.slots.specs.declared.Holding.TheVariants.{ByHand, ByThis, ByAnother}
-use Rattle.table.specs.Steps.{StepOutcome, find, changed, without, refusedWith, accepted_with, removing, removedFrom, remove}
+use Rattle.table.specs.Steps.{StepOutcome, find, changed, without, refused_with, accepted_with, removing, removed_from, remove}
 use Rattle.table.specs.Promise.{slot_by, slot_for, removal_at, removal_by, removal_for, CanCarryOut, CarriesOut, Results}
 use Rattle.table.specs.declared.step.RemovalFor.{RemovalFor}
 use Rattle.table.specs.declared.step.RemovalFor.TheVariants as comes
@@ -26,10 +26,10 @@ module _ (t : List TableEntry) (n d : List ℕ) (f : Family) (x : List ℕ) wher
   -- ---- what it comes to, by the place of the name
 
   pub held_removal : {k : ℕ} {b : List ℕ} {at : ℕ} (h : HeldAt k n t b at)
-      → removal_at (removal (holding eq_bytes h.entry.holder d) (is_address (address_of f h.entry) x) (hasAddress (deleted f h.entry))) at ≡ removal_for t n d f x
+      → removal_at (removal (holding eq_bytes h.entry.holder d) (is_address (address_of f h.entry) x) (has_address (deleted f h.entry))) at ≡ removal_for t n d f x
   unfolding removal_for
   held_removal h =
-      let said = removal (holding eq_bytes h.entry.holder d) (is_address (address_of f h.entry) x) (hasAddress (deleted f h.entry)) in
+      let said = removal (holding eq_bytes h.entry.holder d) (is_address (address_of f h.entry) x) (has_address (deleted f h.entry)) in
       rw h.found (ap (removal_at said) h.offset)
 
   pub none_removal : find n t ≡ none → comes.Refused 33 ≡ removal_for t n d f x
@@ -40,7 +40,7 @@ module _ (t : List TableEntry) (n d : List ℕ) (f : Family) (x : List ℕ) wher
 
   -- what a remove comes to, m, and its outcome, o: case by case
   pub data Coming (m : RemovalFor) (o : StepOutcome (List ℕ)) : Type 0 where
-    refused : (number : ℕ) → m ≡ comes.Refused number → o ≡ refusedWith number t → Coming m o
+    refused : (number : ℕ) → m ≡ comes.Refused number → o ≡ refused_with number t → Coming m o
     kept : (e : TableEntry) → find n t ≡ some e → m ≡ comes.Address (slot_size * position n t) → o ≡ accepted_with 0 (changed n (deleted f) t) → Coming m o
     gone : (e : TableEntry) → find n t ≡ some e → m ≡ comes.Name (slot_size * position n t) → o ≡ accepted_with 0 (without n t) → Coming m o
 
@@ -52,20 +52,20 @@ module _ (t : List TableEntry) (n d : List ℕ) (f : Family) (x : List ℕ) wher
   by_holding e found ByThis false more = Coming.refused _ refl refl
   by_holding e found ByAnother there more = Coming.refused _ refl refl
 
-  by_entry : (o : Option TableEntry) → find n t ≡ o → Coming (removal_by o (slot_size * position n t) d f x) (removedFrom o eq_bytes t n d f x)
+  by_entry : (o : Option TableEntry) → find n t ≡ o → Coming (removal_by o (slot_size * position n t) d f x) (removed_from o eq_bytes t n d f x)
   by_entry none found = Coming.refused _ refl refl
-  by_entry (some e) found = by_holding e found (holding eq_bytes e.holder d) (is_address (address_of f e) x) (hasAddress (deleted f e))
+  by_entry (some e) found = by_holding e found (holding eq_bytes e.holder d) (is_address (address_of f e) x) (has_address (deleted f e))
 
   pub coming : (m : RemovalFor) → m ≡ removal_for t n d f x → Coming m (remove eq_bytes t n d f x)
   unfolding removal_for remove
-  coming m is = subst (λ (y : RemovalFor). Coming y (removedFrom (find n t) eq_bytes t n d f x)) (sym is) (by_entry (find n t) refl)
+  coming m is = subst (λ (y : RemovalFor). Coming y (removed_from (find n t) eq_bytes t n d f x)) (sym is) (by_entry (find n t) refl)
 
   -- the remove is refused with that number
-  pub refused_outcome : (number : ℕ) → comes.Refused number ≡ removal_for t n d f x → remove eq_bytes t n d f x ≡ refusedWith number t
+  pub refused_outcome : (number : ℕ) → comes.Refused number ≡ removal_for t n d f x → remove eq_bytes t n d f x ≡ refused_with number t
   refused_outcome number is = go (coming (comes.Refused number) is)
     where
-      go : {o : StepOutcome (List ℕ)} → Coming (comes.Refused number) o → o ≡ refusedWith number t
-      go (Coming.refused i e s) = s ∙ ap (λ (j : ℕ). refusedWith j t) (let same : i ≡ number = cc in same)
+      go : {o : StepOutcome (List ℕ)} → Coming (comes.Refused number) o → o ≡ refused_with number t
+      go (Coming.refused i e s) = s ∙ ap (λ (j : ℕ). refused_with j t) (let same : i ≡ number = cc in same)
       go (Coming.kept c found e s) = absurd (let z : ◌≡◌ {A = ℕ} 0 1 = cc in omega arith)
       go (Coming.gone c found e s) = absurd (let z : ◌≡◌ {A = ℕ} 0 1 = cc in omega arith)
 

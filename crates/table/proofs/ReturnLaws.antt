@@ -13,7 +13,7 @@ use Rattle.base.specs.Order.{Test, AllHold}
 use Rattle.base.specs.declared.Answer.{Answer}
 use Rattle.base.specs.declared.Answer.TheVariants.{Accepted}
 use Rattle.base.proofs.AnswerLaws.{accepted≢refused}
-use Rattle.slots.specs.Effect.{entered, deleted, hasAddress}
+use Rattle.slots.specs.Effect.{entered, deleted, has_address}
 use Rattle.slots.specs.Entry.{Entry, names, Distinct}
 use Rattle.slots.specs.Form.{TableEntry}
 use Rattle.slots.specs.declared.Family.{Family}
@@ -42,12 +42,12 @@ module _ {H : Type 0} (n : List ℕ) (t : List (Entry H)) (c : Entry H) (stood :
   fewer_others d = omega (arith, ap length (gone_others n t (without n t) (find_without n t d) (others_without n t)), fewer_without)
 
 -- where that was the last address, the others are left, and no more
-pub last_gone : {t u : List TableEntry} {n d : List ℕ} {f : Family} {x : List ℕ} (c : TableEntry) → Deleted t u n d f x → find n t ≡ some c → hasAddress (deleted f c) ≡ false
+pub last_gone : {t u : List TableEntry} {n d : List ℕ} {f : Family} {x : List ℕ} (c : TableEntry) → Deleted t u n d f x → find n t ≡ some c → has_address (deleted f c) ≡ false
     → (find n u ≡ none) × (u ≡ others n t)
 last_gone {t} {u} {n} {f = f} c h stood last = go h.left
   where
     go : LeftOf t u n f h.entry → (find n u ≡ none) × (u ≡ others n t)
-    go (LeftOf.kept more found order) = absurd (true≢false (sym more ∙ ap (λ (y : TableEntry). hasAddress (deleted f y)) (some-injective h.entry c (sym h.stood ∙ stood)) ∙ last))
+    go (LeftOf.kept more found order) = absurd (true≢false (sym more ∙ ap (λ (y : TableEntry). has_address (deleted f y)) (some-injective h.entry c (sym h.stood ∙ stood)) ∙ last))
     go (LeftOf.gone no_more absent) = (absent, gone_others n t u absent h.else_same)
 
 -- an add of a name that nobody has, with a place free

@@ -12,8 +12,8 @@ use Rattle.base.specs.Logic.{Every}
 use Rattle.base.proofs.Lists.{every_append, map_append}
 use Rattle.base.proofs.Tests.{eq_eq_bytes, ne_eq_bytes}
 use Rattle.name.specs.Name.{Proper, canonical}
-use Rattle.slots.specs.Effect.{entered, refreshed, takenOver, deleted}
-use Rattle.slots.specs.Entry.{names, Distinct, address_of, address_size, other, withAddress, withHolder}
+use Rattle.slots.specs.Effect.{entered, refreshed, taken_over, deleted}
+use Rattle.slots.specs.Entry.{names, Distinct, address_of, address_size, other, with_address, with_holder}
 use Rattle.slots.specs.Form.{TableEntry, flag, flags, WellFormed}
 use Rattle.slots.specs.declared.Family.{Family}
 use Rattle.slots.specs.declared.Family.TheVariants.{V4, V6}
@@ -22,7 +22,7 @@ use Rattle.table.proofs.OthersLaws.{find_same, find_other, changed_same, changed
 
 -- ---- one entry
 
-put_well_formed : (f : Family) (x : List ℕ) (e : TableEntry) → length x ≡ address_size f → WellFormed e → WellFormed (withAddress f (some x) e)
+put_well_formed : (f : Family) (x : List ℕ) (e : TableEntry) → length x ≡ address_size f → WellFormed e → WellFormed (with_address f (some x) e)
 unfolding flags
 put_well_formed V4 x e size w = record { proper = w.proper; lower = w.lower; a = size; aaaa = w.aaaa; dhcid = w.dhcid; some = omega arith }
 put_well_formed V6 x e size w = record { proper = w.proper; lower = w.lower; a = w.a; aaaa = size; dhcid = w.dhcid; some = omega arith }
@@ -32,14 +32,14 @@ unfolding flags
 held_flag e d held = let four : flag 4 e.holder ≡ 4 = ap (flag 4) held in omega arith
 
 -- without an address, where the client still holds the name
-drop_well_formed : (f : Family) (e : TableEntry) (d : List ℕ) → e.holder ≡ some d → WellFormed e → WellFormed (withAddress f none e)
+drop_well_formed : (f : Family) (e : TableEntry) (d : List ℕ) → e.holder ≡ some d → WellFormed e → WellFormed (with_address f none e)
 unfolding flags
 drop_well_formed V4 e d held w =
     record { proper = w.proper; lower = w.lower; a = tt; aaaa = w.aaaa; dhcid = w.dhcid; some = let four : flag 4 e.holder ≡ 4 = ap (flag 4) held in omega arith }
 drop_well_formed V6 e d held w =
     record { proper = w.proper; lower = w.lower; a = w.a; aaaa = tt; dhcid = w.dhcid; some = let four : flag 4 e.holder ≡ 4 = ap (flag 4) held in omega arith }
 
-hold_well_formed : (d : List ℕ) (e : TableEntry) → well_formed d ≡ true → WellFormed e → WellFormed (withHolder d e)
+hold_well_formed : (d : List ℕ) (e : TableEntry) → well_formed d ≡ true → WellFormed e → WellFormed (with_holder d e)
 unfolding flags
 hold_well_formed d e good w = record { proper = w.proper; lower = w.lower; a = w.a; aaaa = w.aaaa; dhcid = good; some = omega arith }
 
@@ -49,8 +49,8 @@ module _ (d : List ℕ) (f : Family) (x : List ℕ) (good : well_formed d ≡ tr
       let bare : TableEntry = record { name = n; a = none; aaaa = none; holder = some d } in
       put_well_formed f x bare size (record { proper = p; lower = c; a = tt; aaaa = tt; dhcid = good; some = held_flag bare d refl })
 
-  pub taken_well_formed : (e : TableEntry) → WellFormed e → WellFormed (takenOver d f x e)
-  taken_well_formed e w = put_well_formed f x (withAddress (other f) none (withHolder d e)) size (drop_well_formed (other f) (withHolder d e) d refl (hold_well_formed d e good w))
+  pub taken_well_formed : (e : TableEntry) → WellFormed e → WellFormed (taken_over d f x e)
+  taken_well_formed e w = put_well_formed f x (with_address (other f) none (with_holder d e)) size (drop_well_formed (other f) (with_holder d e) d refl (hold_well_formed d e good w))
 
   pub refreshed_well_formed : (e : TableEntry) → WellFormed e → WellFormed (refreshed f x e)
   refreshed_well_formed e w = put_well_formed f x e size w
@@ -59,7 +59,7 @@ pub deleted_well_formed : (f : Family) (e : TableEntry) (d : List ℕ) → e.hol
 deleted_well_formed f e d held w = drop_well_formed f e d held w
 
 -- a step on an entry keeps its name
-pub keeps_name : (f : Family) (o : Option (List ℕ)) (e : TableEntry) → (withAddress f o e).name ≡ e.name
+pub keeps_name : (f : Family) (o : Option (List ℕ)) (e : TableEntry) → (with_address f o e).name ≡ e.name
 keeps_name V4 o e = refl
 keeps_name V6 o e = refl
 
@@ -67,7 +67,7 @@ pub entered_name : (n d : List ℕ) (f : Family) (x : List ℕ) → (entered n d
 entered_name n d V4 x = refl
 entered_name n d V6 x = refl
 
-pub taken_keeps_name : (d : List ℕ) (f : Family) (x : List ℕ) (e : TableEntry) → (takenOver d f x e).name ≡ e.name
+pub taken_keeps_name : (d : List ℕ) (f : Family) (x : List ℕ) (e : TableEntry) → (taken_over d f x e).name ≡ e.name
 taken_keeps_name d V4 x e = refl
 taken_keeps_name d V6 x e = refl
 

@@ -17,7 +17,7 @@ use Rattle.base.proofs.AnswerLaws.{accepted≢refused}
 use Rattle.base.proofs.Theorems.{one_fault, no_fault}
 use Rattle.name.specs.Name.{canonical}
 use Rattle.name.proofs.Theorems.{canonical_form}
-use Rattle.slots.specs.Effect.{entered, deleted, hasAddress}
+use Rattle.slots.specs.Effect.{entered, deleted, has_address}
 use Rattle.slots.specs.Entry.{family_of, address_of, names, position}
 use Rattle.slots.specs.Form.{TableEntry, slot_bytes, table_bytes, Sound}
 use Rattle.slots.specs.Sizes.{slot_size}
@@ -182,7 +182,7 @@ module _ (limit : ℕ) (b name dhcid : List ℕ) (family : ℕ) (address : List 
 
     -- a returned head (document 02, K1): after an accepted remove of the name's last address an add of that name, in either case of letters, by whatever client and under either
     -- policy, answers 0; the name then stands last, behind all the others
-    pub returned_name : (v : ℕ) → r ≡ Accepted v → (s : Sound limit b) (c : TableEntry) → find (canonical name) s.table ≡ some c → hasAddress (deleted (family_of family) c) ≡ false
+    pub returned_name : (v : ℕ) → r ≡ Accepted v → (s : Sound limit b) (c : TableEntry) → find (canonical name) s.table ≡ some c → has_address (deleted (family_of family) c) ≡ false
         → (again client : List ℕ) (family' : ℕ) (address' : List ℕ) (policy : ℕ) → canonical again ≡ canonical name → SoundAdd limit left again client family' address' policy
         → (q : Answer) (after : List ℕ) → Adds limit left again client family' address' policy q after
         → (q ≡ Accepted 0) × (after ≡ table_bytes limit (others (canonical name) s.table ++ entered (canonical name) client (family_of family') address' ∷ []))

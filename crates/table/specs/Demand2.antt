@@ -8,7 +8,7 @@ use Rattle.base.specs.Family.{KnownFamily}
 use Rattle.base.specs.Order.{AllHold}
 use Rattle.base.specs.declared.Answer.{Answer}
 use Rattle.base.specs.declared.Answer.TheVariants.{Accepted}
-use Rattle.slots.specs.Effect.{entered, refreshed, takenOver, deleted, hasAddress}
+use Rattle.slots.specs.Effect.{entered, refreshed, taken_over, deleted, has_address}
 use Rattle.slots.specs.Entry.{Entry, names, address_of}
 use Rattle.slots.specs.Form.{TableEntry}
 use Rattle.slots.specs.declared.Family.{Family}
@@ -48,7 +48,7 @@ pub data MayInstall (limit : ℕ) (t : List TableEntry) (n d : List ℕ) (policy
 pub data Installs (limit : ℕ) (t : List TableEntry) (n d : List ℕ) (f : Family) (x : List ℕ) (policy : ℕ) : Answer → TableEntry → Type 0 where
   unused : find n t ≡ none → length t < limit → Installs limit t n d f x policy (Accepted 0) (entered n d f x)
   same : (e : TableEntry) → find n t ≡ some e → e.holder ≡ some d → Installs limit t n d f x policy (Accepted 1) (refreshed f x e)
-  latest : (e : TableEntry) (c : List ℕ) → find n t ≡ some e → e.holder ≡ some c → (c ≡ d → ⊥) → policy ≡ 1 → Installs limit t n d f x policy (Accepted 2) (takenOver d f x e)
+  latest : (e : TableEntry) (c : List ℕ) → find n t ≡ some e → e.holder ≡ some c → (c ≡ d → ⊥) → policy ≡ 1 → Installs limit t n d f x policy (Accepted 2) (taken_over d f x e)
 
 -- the client with the DHCID d is installed under the name n of the entries u: the name's entry has that DHCID and that address, and r, which was answered, is no
 -- refusal. Which of 0, 1 and 2 it is, Installs says
@@ -64,8 +64,8 @@ pub record Installed (u : List TableEntry) (n d : List ℕ) (f : Family) (x : Li
 -- what the entries u have of the name n, under which e stood in t: e without that address, and every name in its place; or, where neither an A nor an AAAA was
 -- left, nothing (document 02, K1; docs/RULES.md, 7.4)
 pub data LeftOf (t u : List TableEntry) (n : List ℕ) (f : Family) (e : TableEntry) : Type 0 where
-  kept : hasAddress (deleted f e) ≡ true → find n u ≡ some (deleted f e) → names u ≡ names t → LeftOf t u n f e
-  gone : hasAddress (deleted f e) ≡ false → find n u ≡ none → LeftOf t u n f e
+  kept : has_address (deleted f e) ≡ true → find n u ≡ some (deleted f e) → names u ≡ names t → LeftOf t u n f e
+  gone : has_address (deleted f e) ≡ false → find n u ≡ none → LeftOf t u n f e
 
 -- from the entries t to the entries u that address was deleted, of that client, with the last address the name, and nothing else
 pub record Deleted (t u : List TableEntry) (n d : List ℕ) (f : Family) (x : List ℕ) : Type 0 where

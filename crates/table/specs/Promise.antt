@@ -5,7 +5,7 @@ use Rattle.base.specs.Bytes.{eq_bytes, closed_up}
 use Rattle.base.specs.Refusal.{held_by_another, kept_by_hand, name_not_held}
 use Rattle.base.specs.declared.Answer.{Answer}
 use Rattle.base.specs.declared.Answer.TheVariants.{Accepted, Refused}
-use Rattle.slots.specs.Effect.{deleted, hasAddress}
+use Rattle.slots.specs.Effect.{deleted, has_address}
 use Rattle.slots.specs.Entry.{position, address_of}
 use Rattle.slots.specs.Form.{TableEntry, slot_bytes, IsSlot, table_bytes}
 use Rattle.slots.specs.Promise.{OfSlot, holding, is_address, removal}
@@ -66,7 +66,7 @@ removal_at says.Name at = comes.Name at
 -- and by what stands under the name
 abbrev pub removal_by : Option TableEntry → ℕ → List ℕ → Family → List ℕ → RemovalFor
 removal_by none at d f x = comes.Refused name_not_held
-removal_by (some e) at d f x = removal_at (removal (holding eq_bytes e.holder d) (is_address (address_of f e) x) (hasAddress (deleted f e))) at
+removal_by (some e) at d f x = removal_at (removal (holding eq_bytes e.holder d) (is_address (address_of f e) x) (has_address (deleted f e))) at
 
 -- what a remove comes to, under the name n of the entries t, for the client with the DHCID d, of the address x of the family f: by the offset of the name's slot
 unfoldable pub removal_for : List TableEntry → List ℕ → List ℕ → Family → List ℕ → RemovalFor

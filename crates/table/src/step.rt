@@ -34,7 +34,7 @@ pub enum RemovalFor {
 // An add to a name that stands.
 fn add_held(slot: &mut [u8], dhcid: &[u8], family: Family, address: &[u8], policy: u32) -> Answer
     requires { (IsSlot slot.old) × (length dhcid.now ≡ 35) × (length address.now ≡ address_size family) }
-    ensures { OfSlot slot.old (λ e. spec.LeavesEntry (spec.added_at (holding eq_bytes e.holder dhcid.now) policy e (effect.refreshed family address.now e) (effect.takenOver dhcid.now family address.now e)) result slot.new) }
+    ensures { OfSlot slot.old (λ e. spec.LeavesEntry (spec.added_at (holding eq_bytes e.holder dhcid.now) policy e (effect.refreshed family address.now e) (effect.taken_over dhcid.now family address.now e)) result slot.new) }
 {
     let holder = slot::holding(slot, dhcid);
     match holder {
@@ -63,7 +63,7 @@ fn add_at(
     policy: u32,
 ) -> Answer
     requires { (at + slot_size ≤ length table.old) × (IsSlot (slot_at table.old at)) × (length dhcid.now ≡ 35) × (length address.now ≡ address_size family) }
-    ensures { OfSlot (slot_at table.old at) (λ e. spec.LeavesSlot table.old at (spec.added_at (holding eq_bytes e.holder dhcid.now) policy e (effect.refreshed family address.now e) (effect.takenOver dhcid.now family address.now e)) result table.new) }
+    ensures { OfSlot (slot_at table.old at) (λ e. spec.LeavesSlot table.old at (spec.added_at (holding eq_bytes e.holder dhcid.now) policy e (effect.refreshed family address.now e) (effect.taken_over dhcid.now family address.now e)) result table.new) }
 {
     let end = at + slot::SIZE;
     add_held(&mut table[at..end], dhcid, family, address, policy)
@@ -81,7 +81,7 @@ fn enter_at(table: &mut [u8], at: usize, name: &[u8], dhcid: &[u8], family: Fami
 // What a remove from the name whose slot is at `at` comes to.
 fn removal_at(table: &[u8], at: usize, dhcid: &[u8], family: Family, address: &[u8]) -> RemovalFor
     requires { (at + slot_size ≤ length table.now) × (IsSlot (slot_at table.now at)) }
-    ensures { OfSlot (slot_at table.now at) (λ e. result ≡ spec.removal_at (removal (holding eq_bytes e.holder dhcid.now) (is_address (address_of family e) address.now) (effect.hasAddress (effect.deleted family e))) at) }
+    ensures { OfSlot (slot_at table.now at) (λ e. result ≡ spec.removal_at (removal (holding eq_bytes e.holder dhcid.now) (is_address (address_of family e) address.now) (effect.has_address (effect.deleted family e))) at) }
 {
     let end = at + slot::SIZE;
     let removal = slot::removal(&table[at..end], dhcid, family, address);

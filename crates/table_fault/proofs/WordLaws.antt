@@ -18,7 +18,7 @@ use Rattle.name.proofs.DottedLaws.{text_of_wire}
 use Rattle.name.proofs.NameLaws.{length_text, lowered, canonical_wire, length_canonical, name_lowered}
 use Rattle.name.proofs.Theorems.{spelled, one_name}
 use Rattle.name.specs.Name
-use Rattle.grammar.specs.Listing.{Kind, blank, lineEnd, opening, closing, semicolon, wordByte, notAllowed, kind_of, is_word_kind, is_word_byte, begins, Depth, outside, ResourceRecord, Owner}
+use Rattle.grammar.specs.Listing.{Kind, blank, line_end, opening, closing, semicolon, word_byte, not_allowed, kind_of, is_word_kind, is_word_byte, begins, Depth, outside, ResourceRecord, Owner}
 use Rattle.grammar.specs.Scan.{plain, Ending, at_end, at_line, at_fault, Laid, add_letter, scan}
 use Rattle.grammar.proofs.ScanLaws.{byte_scan}
 use Rattle.grammar.specs.OwnerReader.{owner_of}
@@ -38,18 +38,18 @@ record FirstWord (d : Depth) (u : List ℕ) : Type 0 where
   words : (scan plain d u).words ≡ word ∷ others
   cut : u ≡ word ++ rest
 
-word_kind : (k : Kind) → is_word_kind k ≡ true → k ≡ wordByte
-word_kind wordByte e = refl
+word_kind : (k : Kind) → is_word_kind k ≡ true → k ≡ word_byte
+word_kind word_byte e = refl
 word_kind blank e = absurd (false≢true e)
-word_kind lineEnd e = absurd (false≢true e)
+word_kind line_end e = absurd (false≢true e)
 word_kind opening e = absurd (false≢true e)
 word_kind closing e = absurd (false≢true e)
 word_kind semicolon e = absurd (false≢true e)
-word_kind notAllowed e = absurd (false≢true e)
+word_kind not_allowed e = absurd (false≢true e)
 
 -- one byte more in front
 with_byte : (d : Depth) (b : ℕ) (u : List ℕ) → is_word_byte b ≡ true → (scan plain d (b ∷ u)).words ≡ add_letter b (begins is_word_byte u) (scan plain d u).words
-with_byte d b u h = ap (λ (r : Laid). r.words) (byte_scan plain d b u wordByte (word_kind (kind_of b) h))
+with_byte d b u h = ap (λ (r : Laid). r.words) (byte_scan plain d b u word_byte (word_kind (kind_of b) h))
 
 first_by : (d : Depth) (b : ℕ) (u : List ℕ) → is_word_byte b ≡ true → (begins is_word_byte u ≡ true → FirstWord d u) → (x : Bool) → begins is_word_byte u ≡ x → FirstWord d (b ∷ u)
 first_by d b u h more true q =
@@ -89,14 +89,14 @@ module _ (u : List ℕ) (n : List ℕ) where
   one_owned r (at_line w) e = some-injective r.owner n (sym (first_after r (shifted (length u - length w) (read w))) ∙ e)
   one_owned r at_fault e = absurd (some-ne-none n (sym e))
 
-  by_rdata : (m : List ℕ) (h : Headed) (o : Option (List ℕ)) (x : Ending) → first_owner (by_ending read u (by_rdata m h.rtype o) x) ≡ some n → m ≡ n
-  by_rdata m h none x e = absurd (not_faulty _ x e)
-  by_rdata m h (some bs) x e = one_owned _ x e
+  by_rdata_lem : (m : List ℕ) (h : Headed) (o : Option (List ℕ)) (x : Ending) → first_owner (by_ending read u (by_rdata m h.rtype o) x) ≡ some n → m ≡ n
+  by_rdata_lem m h none x e = absurd (not_faulty _ x e)
+  by_rdata_lem m h (some bs) x e = one_owned _ x e
 
-  by_owner : (o : Option (List ℕ)) (h : Option Headed) (x : Ending) → first_owner (by_ending read u (by_owner o h) x) ≡ some n → o ≡ some n
-  by_owner none h x e = absurd (not_faulty _ x e)
-  by_owner (some m) none x e = absurd (not_faulty _ x e)
-  by_owner (some m) (some h) x e = ap {B = Option (List ℕ)} some (by_rdata m h (rdata_of h.rtype h.rest) x e)
+  by_owner_lem : (o : Option (List ℕ)) (h : Option Headed) (x : Ending) → first_owner (by_ending read u (by_owner o h) x) ≡ some n → o ≡ some n
+  by_owner_lem none h x e = absurd (not_faulty _ x e)
+  by_owner_lem (some m) none x e = absurd (not_faulty _ x e)
+  by_owner_lem (some m) (some h) x e = ap {B = Option (List ℕ)} some (by_rdata_lem m h (rdata_of h.rtype h.rest) x e)
 
 content_owned : (first : Bool) (w : List ℕ) (ws vs : List (List ℕ)) → first ≡ true → vs ≡ w ∷ ws → content_of first vs ≡ by_owner (owner_of w) (head_of ws)
 unfolding content_of
@@ -108,7 +108,7 @@ owner_begins u r v h e =
     let x = (scan plain outside u).ending in
     let same = ap (λ (c : Content). by_ending read u c x) (content_owned (begins is_word_byte u) w.word w.others (scan plain outside u).words h w.words) in
     let first = ap first_owner (sym (read_step u ∙ same) ∙ e) ∙ first_after r v in
-    record { word = w.word; rest = w.rest; cut = w.cut; owner = owner_reads.is w.word r.owner (by_owner u r.owner (owner_of w.word) (head_of w.others) x first) }
+    record { word = w.word; rest = w.rest; cut = w.cut; owner = owner_reads.is w.word r.owner (by_owner_lem u r.owner (owner_of w.word) (head_of w.others) x first) }
 
 -- ---- a name that is spelled
 

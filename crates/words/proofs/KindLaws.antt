@@ -7,31 +7,31 @@ use lib.Dec.{leb, eqb}
 use borrow.Author.Tests.{ne_eqb, eqb-true, eqb-false, leb-true, leb-false, lt-leb}
 use Rattle.base.proofs.SetLaws.{same, same_is}
 use Rattle.base.proofs.Tests.{below, at_each, by_ltb, within, under, over}
-use Rattle.grammar.specs.Listing.{blank, lineEnd, opening, closing, semicolon, wordByte, notAllowed, is_visible, kind_of, is_word_kind, is_comment_kind, is_word_byte, is_comment_byte}
+use Rattle.grammar.specs.Listing.{blank, line_end, opening, closing, semicolon, word_byte, not_allowed, is_visible, kind_of, is_word_kind, is_comment_kind, is_word_byte, is_comment_byte}
 
 -- a byte that none of the single ones is: a word's, or not allowed
-other_kind : (b : ℕ) (v : Bool) → (b ≡ 9 → ⊥) → (b ≡ 32 → ⊥) → (b ≡ 10 → ⊥) → (b ≡ 40 → ⊥) → (b ≡ 41 → ⊥) → (b ≡ 59 → ⊥) → is_visible b ≡ v → kind_of b ≡ cond v wordByte notAllowed
+other_kind : (b : ℕ) (v : Bool) → (b ≡ 9 → ⊥) → (b ≡ 32 → ⊥) → (b ≡ 10 → ⊥) → (b ≡ 40 → ⊥) → (b ≡ 41 → ⊥) → (b ≡ 59 → ⊥) → is_visible b ≡ v → kind_of b ≡ cond v word_byte not_allowed
 unfolding kind_of
 other_kind b v tab space line opens closes semi e =
     λ i.
     cond (ne_eqb b 9 tab i || ne_eqb b 32 space i) blank
-    (cond (ne_eqb b 10 line i) lineEnd
+    (cond (ne_eqb b 10 line i) line_end
     (cond (ne_eqb b 40 opens i) opening
     (cond (ne_eqb b 41 closes i) closing
     (cond (ne_eqb b 59 semi i) semicolon
-    (cond (e i) wordByte notAllowed)))))
+    (cond (e i) word_byte not_allowed)))))
 
 module _ (b : ℕ) where
-  pub word_kind : 32 ≤ b → (b ≡ 32 → ⊥) → b ≤ 126 → (b ≡ 40 → ⊥) → (b ≡ 41 → ⊥) → (b ≡ 59 → ⊥) → kind_of b ≡ wordByte
+  pub word_kind : 32 ≤ b → (b ≡ 32 → ⊥) → b ≤ 126 → (b ≡ 40 → ⊥) → (b ≡ 41 → ⊥) → (b ≡ 59 → ⊥) → kind_of b ≡ word_byte
   unfolding is_visible
   word_kind low space high opens closes semi =
       let visible : 33 ≤ b = omega (arith, space) in other_kind b true (λ e. omega arith) space (λ e. omega arith) opens closes semi (within 33 b 126 visible high)
 
-  pub low_kind : b < 33 → (b ≡ 9 → ⊥) → (b ≡ 32 → ⊥) → (b ≡ 10 → ⊥) → kind_of b ≡ notAllowed
+  pub low_kind : b < 33 → (b ≡ 9 → ⊥) → (b ≡ 32 → ⊥) → (b ≡ 10 → ⊥) → kind_of b ≡ not_allowed
   unfolding is_visible
   low_kind low tab space line = other_kind b false tab space line (λ e. omega arith) (λ e. omega arith) (λ e. omega arith) (under 33 b 126 low)
 
-  pub high_kind : 126 < b → kind_of b ≡ notAllowed
+  pub high_kind : 126 < b → kind_of b ≡ not_allowed
   unfolding is_visible
   high_kind high =
       other_kind b false (λ e. omega arith) (λ e. omega arith) (λ e. omega arith) (λ e. omega arith) (λ e. omega arith) (λ e. omega arith) (over 33 b 126 high)
@@ -43,7 +43,7 @@ module _ (b : ℕ) where
   unfolding kind_of is_visible
   comment_visible low high = rw (within 33 b 126 low high, ne_eqb b 10 (λ e. omega arith)) (go (eqb b 9 || eqb b 32) (eqb b 40) (eqb b 41) (eqb b 59))
     where
-      go : (c o l s : Bool) → is_comment_kind (cond c blank (cond o opening (cond l closing (cond s semicolon wordByte)))) ≡ true
+      go : (c o l s : Bool) → is_comment_kind (cond c blank (cond o opening (cond l closing (cond s semicolon word_byte)))) ≡ true
       go true o l s = refl
       go false true l s = refl
       go false false true s = refl

@@ -7,7 +7,7 @@ use native.Mathlib.Numerals.{add-one}
 use native.Mathlib.Omega.{arith}
 use lib.ListN.{length, take, drop, get_or, drop_of_length-le, length-take}
 use lib.Seq.{drop-cons}
-use Rattle.grammar.specs.Listing.{Kind, semicolon, wordByte, kind_of, is_word_kind, is_word_byte, is_comment_byte, begins, LongestRun, Depth, Piece}
+use Rattle.grammar.specs.Listing.{Kind, semicolon, word_byte, kind_of, is_word_kind, is_word_byte, is_comment_byte, begins, LongestRun, Depth, Piece}
 use Rattle.grammar.specs.Scan.{plain, at_text_end, act, depth_after, mode_after, put, scan, preceded}
 use Rattle.grammar.proofs.ScanLaws.{byte_scan, piece_scan}
 use Rattle.words.specs.NextIs.{RunTo}
@@ -26,7 +26,7 @@ module _ (t : List ℕ) (i : ℕ) (within : i < length t) where
   at_comment d end e r = ap (scan plain d) here ∙ piece_scan (Piece.a_comment e r.run)
 
   -- a word, up to the end of its run
-  pub at_word : (d : Depth) (end : ℕ) → kind_of (get_or t i 0) ≡ wordByte → RunTo is_word_byte t i end
+  pub at_word : (d : Depth) (end : ℕ) → kind_of (get_or t i 0) ≡ word_byte → RunTo is_word_byte t i end
       → (i < end) × (scan plain d (drop i t) ≡ preceded (take (end - i) (drop i t) ∷ []) (scan plain d (drop end t)))
   at_word d end e r = go (take (end - i) (drop i t)) refl
     where

@@ -13,12 +13,12 @@ use Rattle.words.specs.declared.Next.TheVariants
 
 abbrev pub kind_meant : ByteKind → Kind
 kind_meant Blank = Listing.blank
-kind_meant LineEnd = Listing.lineEnd
+kind_meant LineEnd = Listing.line_end
 kind_meant Opening = Listing.opening
 kind_meant Closing = Listing.closing
 kind_meant Semicolon = Listing.semicolon
-kind_meant Word = Listing.wordByte
-kind_meant NotAllowed = Listing.notAllowed
+kind_meant Word = Listing.word_byte
+kind_meant NotAllowed = Listing.not_allowed
 
 abbrev pub depth_of : Bool → Depth
 depth_of true = inside

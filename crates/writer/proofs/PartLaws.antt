@@ -105,17 +105,17 @@ module _ (n : ℕ) (bs : List ℕ) where
       (omega (arith, length-append (type_part n) (rdata_part n bs)))
 
 module _ (p : Record) (some : 1 ≤ p.owner_len) (within : p.owner_len ≤ length p.owner) where
-  abbrev ownerPart : List ℕ
-  ownerPart = text_of (take p.owner_len p.owner)
+  abbrev owner_part : List ℕ
+  owner_part = text_of (take p.owner_len p.owner)
 
-  length_owner : length ownerPart ≡ p.owner_len - 1
+  length_owner : length owner_part ≡ p.owner_len - 1
   length_owner = length_text_of (take p.owner_len p.owner) ∙ ap (λ (k : ℕ). k - 1) (length-take-le p.owner_len p.owner within)
 
   pub length_line : length (line_of p) ≡ p.owner_len - 1 + length (rest_part p.rtype p.rdata)
   unfolding line_of
-  length_line = length-append ownerPart (rest_part p.rtype p.rdata) ∙ ap (λ (k : ℕ). k + length (rest_part p.rtype p.rdata)) length_owner
+  length_line = length-append owner_part (rest_part p.rtype p.rdata) ∙ ap (λ (k : ℕ). k + length (rest_part p.rtype p.rdata)) length_owner
 
-  pub line_written : (to t u : List ℕ) (at end : ℕ) → at ≤ length to → t ≡ overlay to at ownerPart → end ≡ at + p.owner_len - 1
+  pub line_written : (to t u : List ℕ) (at end : ℕ) → at ≤ length to → t ≡ overlay to at owner_part → end ≡ at + p.owner_len - 1
       → u ≡ overlay t end (rest_part p.rtype p.rdata) → u ≡ overlay to at (line_of p)
   unfolding line_of
-  line_written to t u at end fits et ee eu = eu ∙ written_on to t at end ownerPart (rest_part p.rtype p.rdata) fits et (omega (arith, length_owner))
+  line_written to t u at end fits et ee eu = eu ∙ written_on to t at end owner_part (rest_part p.rtype p.rdata) fits et (omega (arith, length_owner))

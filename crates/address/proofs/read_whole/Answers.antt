@@ -13,7 +13,7 @@ pub returns-then-not-has_colons : goal.returns-then-not-has_colons
 returns-then-not-has_colons c =
     let w = c.args.word.now in
     none_spelled w c.no_aaaa.ensures
-    (λ bs s. c.has_colons.ensures.if_false (not-true _ c.if-not-has_colons.true) (spelled_colons w bs c.requires s))
+    (λ bs s. c.has_colons.ensures.if_false c.if-not-has_colons.true (spelled_colons w bs c.requires s))
 
 pub loop-k-init : goal.loop-k-init
 loop-k-init c = (filled_none _ _ _ refl, λ m lt. absurd (omega arith))
@@ -65,4 +65,4 @@ returns c =
     let l = c.loop-k in
     yes_read refl
     (subst (SpellsAAAA w) (sym (filled_all _ _ _ l.k l.invariant.0 (omega arith)))
-    (whole_spells w c.requires (c.has_colons.ensures.if_true (not-false _ c.if-not-has_colons.false)) (λ k lt. l.invariant.1 k (omega arith))))
+    (whole_spells w c.requires (c.has_colons.ensures.if_true c.if-not-has_colons.false) (λ k lt. l.invariant.1 k (omega arith))))

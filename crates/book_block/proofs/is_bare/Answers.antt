@@ -17,7 +17,7 @@ slice_bounds-is_canonical-end c = omega (arith, c.type_inv.slot 0)
 pub returns-then-not-is_canonical : goal.returns-then-not-is_canonical
 returns-then-not-is_canonical c =
     let is = c.is_canonical in
-    no_by (λ h. is.ensures.if_false (not-true is.result c.if-not-is_canonical.true) (bare_held c.args.slot.now c.requires (omega (arith, c.type_inv.slot 0)) h))
+    no_by (λ h. is.ensures.if_false c.if-not-is_canonical.true (bare_held c.args.slot.now c.requires (omega (arith, c.type_inv.slot 0)) h))
 
 pub slice_bounds-are_zeros_at_once-count : goal.slice_bounds-are_zeros_at_once-count
 slice_bounds-are_zeros_at_once-count c = omega (arith, c.type_inv.slot 0)
@@ -29,4 +29,4 @@ pub returns : goal.returns
 returns c =
     let is = c.is_canonical in
     let s = c.args.slot.now in
-    decides_as (is_bare s c.requires (omega (arith, c.type_inv.slot 0)) (is.ensures.if_true (not-false is.result c.if-not-is_canonical.false))) (bare_zeros s c.requires (omega (arith, c.type_inv.slot 0))) c.are_zeros_at_once.ensures
+    decides_as (is_bare s c.requires (omega (arith, c.type_inv.slot 0)) (is.ensures.if_true c.if-not-is_canonical.false)) (bare_zeros s c.requires (omega (arith, c.type_inv.slot 0))) c.are_zeros_at_once.ensures

@@ -14,17 +14,17 @@ use Rattle.book_block.proofs.write.Goals as goal
 
 pub returns-then-not-is_sound : goal.returns-then-not-is_sound
 returns-then-not-is_sound c =
-    BlockWritten.faulty (inl (c.is_sound.ensures.if_false (not-true c.is_sound.result c.if-not-is_sound.true), refl)) c.refused.ensures refl
+    BlockWritten.faulty (inl (c.is_sound.ensures.if_false c.if-not-is_sound.true, refl)) c.refused.ensures refl
 
 pub returns-then-not-is_proper : goal.returns-then-not-is_proper
 returns-then-not-is_proper c =
-    let s = c.is_sound.ensures.if_true (not-false c.is_sound.result c.if-not-is_sound.false) in
-    BlockWritten.faulty (inr (s, inl (c.is_proper.ensures.if_false (not-true c.is_proper.result c.if-not-is_proper.true), refl))) c.refused-then-not-is_proper.ensures refl
+    let s = c.is_sound.ensures.if_true c.if-not-is_sound.false in
+    BlockWritten.faulty (inr (s, inl (c.is_proper.ensures.if_false c.if-not-is_proper.true, refl))) c.refused-then-not-is_proper.ensures refl
 
 -- behind the first two tests: the table is sound, and the name is proper
 known : (f : goal.Else-not-is_proper) → let a = f.args in Sound most_names a.table.now × Proper a.name.now
 known f =
-    (f.is_sound.ensures.if_true (not-false f.is_sound.result f.if-not-is_sound.false), f.is_proper.ensures.if_true (not-false f.is_proper.result f.if-not-is_proper.false))
+    (f.is_sound.ensures.if_true f.if-not-is_sound.false, f.is_proper.ensures.if_true f.if-not-is_proper.false)
 
 pub returns-then-out-lt-SIZE : goal.returns-then-out-lt-SIZE
 returns-then-out-lt-SIZE c =

@@ -59,7 +59,7 @@ returns-then-not-are_digits c =
         within = l.invariant.1;
         fits = l.invariant.2;
         digits = l.invariant.4;
-        most = λ begins near fits. no_quantum w l.passed fits e₁ e₂ e₃ e₄ (c.are_digits.ensures.if_false (not-true _ c.if-not-are_digits.true));
+        most = λ begins near fits. no_quantum w l.passed fits e₁ e₂ e₃ e₄ (c.are_digits.ensures.if_false c.if-not-are_digits.true);
       },
       l.invariant.5,
     )
@@ -67,7 +67,7 @@ returns-then-not-are_digits c =
 pub put_quantum-requires : goal.put_quantum-requires
 put_quantum-requires c =
     let l = c.loop-passed in
-    (c.are_digits.ensures.if_true (not-false _ c.if-not-are_digits.false), omega arith, omega arith, l.invariant.3)
+    (c.are_digits.ensures.if_true c.if-not-are_digits.false, omega arith, omega arith, l.invariant.3)
 
 pub loop-passed-preserved : goal.loop-passed-preserved
 loop-passed-preserved c =
@@ -80,7 +80,7 @@ loop-passed-preserved c =
     let e₄ = c.value64-d.ensures in
     let q = c.put_quantum in
     let fits : l.passed + 4 ≤ length w = omega arith in
-    let small = c.are_digits.ensures.if_true (not-false _ c.if-not-are_digits.false) in
+    let small = c.are_digits.ensures.if_true c.if-not-are_digits.false in
     let digits = quantum_digits w l.passed fits e₁ e₂ e₃ e₄ small in (
       omega arith,
       fits,

@@ -11,10 +11,10 @@ pub returns-then-not-shape_is_right : goal.returns-then-not-shape_is_right
 unfolding faulty_from
 returns-then-not-shape_is_right c =
     let a = c.args in
-    c.fault.ensures ∙ ap (λ (b : Bool). fault_before (cond b a.number entry_shape) (length a.text.now)) (sym (not-true c.shape_is_right.result c.if-not-shape_is_right.true) ∙ c.shape_is_right.ensures)
+    c.fault.ensures ∙ ap (λ (b : Bool). fault_before (cond b a.number entry_shape) (length a.text.now)) (sym c.if-not-shape_is_right.true ∙ c.shape_is_right.ensures)
 
 pub returns : goal.returns
 unfolding faulty_from
 returns c =
     let a = c.args in
-    c.fault-2.ensures ∙ ap (λ (b : Bool). fault_before (cond b a.number entry_shape) (length a.text.now)) (sym (not-false c.shape_is_right.result c.if-not-shape_is_right.false) ∙ c.shape_is_right.ensures)
+    c.fault-2.ensures ∙ ap (λ (b : Bool). fault_before (cond b a.number entry_shape) (length a.text.now)) (sym c.if-not-shape_is_right.false ∙ c.shape_is_right.ensures)

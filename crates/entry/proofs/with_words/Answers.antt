@@ -24,7 +24,7 @@ returns-then-not-is_word_byte c =
     let w = c.requires in
     let o = c.from_text-owner in
     c.faulty-then-not-is_word_byte.ensures ∙ bad_first t a.at a.start a.end a.inside w
-    (first_byte t a.at (omega (arith, w.from, w.some, w.within)) ∙ sym c.is_word_byte.ensures ∙ not-true c.is_word_byte.result c.if-not-is_word_byte.true)
+    (first_byte t a.at (omega (arith, w.from, w.some, w.within)) ∙ sym c.is_word_byte.ensures ∙ c.if-not-is_word_byte.true)
 
 pub returns-then-head-eq-NO_TYPE : goal.returns-then-head-eq-NO_TYPE
 returns-then-head-eq-NO_TYPE c =
@@ -33,7 +33,7 @@ returns-then-head-eq-NO_TYPE c =
     let w = c.requires in
     let o = c.from_text-owner in
     let n = owner_some (take (a.end - a.start) (drop a.start t)) o.result o.ensures c.if-owner-eq0.false in
-    let first = first_byte t a.at (omega (arith, w.from, w.some, w.within)) ∙ sym c.is_word_byte.ensures ∙ not-false c.is_word_byte.result c.if-not-is_word_byte.false in
+    let first = first_byte t a.at (omega (arith, w.from, w.some, w.within)) ∙ sym c.is_word_byte.ensures ∙ c.if-not-is_word_byte.false in
     let h = c.read-head in
     c.faulty-then-head-eq-NO_TYPE.ensures ∙ bad_type t a.at a.start a.end a.inside w n.0 first n.1 h.result h.ensures c.if-head-eq-NO_TYPE.true
 
@@ -44,10 +44,10 @@ returns-then-not-data c =
     let w = c.requires in
     let o = c.from_text-owner in
     let n = owner_some (take (a.end - a.start) (drop a.start t)) o.result o.ensures c.if-owner-eq0.false in
-    let first = first_byte t a.at (omega (arith, w.from, w.some, w.within)) ∙ sym c.is_word_byte.ensures ∙ not-false c.is_word_byte.result c.if-not-is_word_byte.false in
+    let first = first_byte t a.at (omega (arith, w.from, w.some, w.within)) ∙ sym c.is_word_byte.ensures ∙ c.if-not-is_word_byte.false in
     let h = c.read-head in
     let r = c.read-data in
-    c.faulty-then-not-data.ensures ∙ bad_data t a.at a.start a.end a.inside w n.0 first n.1 h.result h.ensures c.if-head-eq-NO_TYPE.false r.result r.ensures (not-true r.result.found c.if-not-data.true)
+    c.faulty-then-not-data.ensures ∙ bad_data t a.at a.start a.end a.inside w n.0 first n.1 h.result h.ensures c.if-head-eq-NO_TYPE.false r.result r.ensures c.if-not-data.true
 
 pub faulty-requires-in-Word : goal.faulty-requires-in-Word
 faulty-requires-in-Word c =
@@ -62,7 +62,7 @@ returns-in-Word c =
     let w = c.requires in
     let o = c.from_text-owner in
     let n = owner_some (take (a.end - a.start) (drop a.start t)) o.result o.ensures c.if-owner-eq0.false in
-    let first = first_byte t a.at (omega (arith, w.from, w.some, w.within)) ∙ sym c.is_word_byte.ensures ∙ not-false c.is_word_byte.result c.if-not-is_word_byte.false in
+    let first = first_byte t a.at (omega (arith, w.from, w.some, w.within)) ∙ sym c.is_word_byte.ensures ∙ c.if-not-is_word_byte.false in
     let h = c.read-head in
     let r = c.read-data in
     let x = c.next_word in
@@ -75,7 +75,7 @@ returns-in-Fault c =
     let w = c.requires in
     let o = c.from_text-owner in
     let n = owner_some (take (a.end - a.start) (drop a.start t)) o.result o.ensures c.if-owner-eq0.false in
-    let first = first_byte t a.at (omega (arith, w.from, w.some, w.within)) ∙ sym c.is_word_byte.ensures ∙ not-false c.is_word_byte.result c.if-not-is_word_byte.false in
+    let first = first_byte t a.at (omega (arith, w.from, w.some, w.within)) ∙ sym c.is_word_byte.ensures ∙ c.if-not-is_word_byte.false in
     let h = c.read-head in
     let r = c.read-data in
     let x = c.next_word in
@@ -88,11 +88,11 @@ returns-in-Line c =
     let w = c.requires in
     let o = c.from_text-owner in
     let n = owner_some (take (a.end - a.start) (drop a.start t)) o.result o.ensures c.if-owner-eq0.false in
-    let first = first_byte t a.at (omega (arith, w.from, w.some, w.within)) ∙ sym c.is_word_byte.ensures ∙ not-false c.is_word_byte.result c.if-not-is_word_byte.false in
+    let first = first_byte t a.at (omega (arith, w.from, w.some, w.within)) ∙ sym c.is_word_byte.ensures ∙ c.if-not-is_word_byte.false in
     let h = c.read-head in
     let r = c.read-data in
     let x = c.next_word in
-    good_to_line t a.at a.start a.end a.inside w n.0 first n.1 h.result h.ensures c.if-head-eq-NO_TYPE.false r.result r.ensures o.result.bytes r.result.bytes o.result.len n.2 n.3 (not-false r.result.found c.if-not-data.false) refl _ (line_is t r.result.at r.result.inside x.result x.ensures c.in-Line.is)
+    good_to_line t a.at a.start a.end a.inside w n.0 first n.1 h.result h.ensures c.if-head-eq-NO_TYPE.false r.result r.ensures o.result.bytes r.result.bytes o.result.len n.2 n.3 c.if-not-data.false refl _ (line_is t r.result.at r.result.inside x.result x.ensures c.in-Line.is)
 
 pub returns-in-End : goal.returns-in-End
 returns-in-End c =
@@ -101,8 +101,8 @@ returns-in-End c =
     let w = c.requires in
     let o = c.from_text-owner in
     let n = owner_some (take (a.end - a.start) (drop a.start t)) o.result o.ensures c.if-owner-eq0.false in
-    let first = first_byte t a.at (omega (arith, w.from, w.some, w.within)) ∙ sym c.is_word_byte.ensures ∙ not-false c.is_word_byte.result c.if-not-is_word_byte.false in
+    let first = first_byte t a.at (omega (arith, w.from, w.some, w.within)) ∙ sym c.is_word_byte.ensures ∙ c.if-not-is_word_byte.false in
     let h = c.read-head in
     let r = c.read-data in
     let x = c.next_word in
-    good_to_end t a.at a.start a.end a.inside w n.0 first n.1 h.result h.ensures c.if-head-eq-NO_TYPE.false r.result r.ensures o.result.bytes r.result.bytes o.result.len n.2 n.3 (not-false r.result.found c.if-not-data.false) refl (end_is t r.result.at r.result.inside x.result x.ensures c.in-End.is)
+    good_to_end t a.at a.start a.end a.inside w n.0 first n.1 h.result h.ensures c.if-head-eq-NO_TYPE.false r.result r.ensures o.result.bytes r.result.bytes o.result.len n.2 n.3 c.if-not-data.false refl (end_is t r.result.at r.result.inside x.result x.ensures c.in-End.is)

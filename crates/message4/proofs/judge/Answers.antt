@@ -21,14 +21,14 @@ pub returns-then-not-is_request : goal.returns-then-not-is_request
 returns-then-not-is_request c =
     let a = c.args in
     let is = c.is_request in
-    let other = sym is.ensures ∙ not-true is.result c.if-not-is_request.true in
+    let other = sym is.ensures ∙ c.if-not-is_request.true in
     c.refused-then-not-is_request.ensures ∙ judged_other a.message.now a.wanted c.if-overload-message_type.false c.if-overload.false other
 
 pub returns : goal.returns
 returns c =
     let a = c.args in
     let is = c.is_request in
-    let request = sym is.ensures ∙ not-false is.result c.if-not-is_request.false in
+    let request = sym is.ensures ∙ c.if-not-is_request.false in
     c.identify.ensures
     ∙ ap (λ (n : Name). identified_as (identifier4 a.message.now (data_of a.message.now 61 a.wanted.client_id)) n) c.name_in-name.ensures
     ∙ judged_request a.message.now a.wanted c.if-overload-message_type.false c.if-overload.false request

@@ -20,7 +20,7 @@ pub returns-then-not-is_bootrequest : goal.returns-then-not-is_bootrequest
 returns-then-not-is_bootrequest c =
     let m = c.args.message.now in
     let is = c.is_bootrequest in
-    let other = sym is.ensures ∙ not-true is.result c.if-not-is_bootrequest.true in
+    let other = sym is.ensures ∙ c.if-not-is_bootrequest.true in
     c.refused-then-not-is_bootrequest.ensures ∙ answer_no_bootrequest m (omega arith) (omega arith) other
 
 pub returns-then-message-gt-LONGEST_ADDRESS : goal.returns-then-message-gt-LONGEST_ADDRESS
@@ -28,7 +28,7 @@ unfolding hlen
 returns-then-message-gt-LONGEST_ADDRESS c =
     let m = c.args.message.now in
     let is = c.is_bootrequest in
-    let request = sym is.ensures ∙ not-false is.result c.if-not-is_bootrequest.false in
+    let request = sym is.ensures ∙ c.if-not-is_bootrequest.false in
     c.refused-then-message-gt-LONGEST_ADDRESS.ensures ∙ answer_long_address m (omega arith) (omega arith) request (omega arith)
 
 pub returns : goal.returns
@@ -36,5 +36,5 @@ unfolding hlen
 returns c =
     let m = c.args.message.now in
     let is = c.is_bootrequest in
-    let request = sym is.ensures ∙ not-false is.result c.if-not-is_bootrequest.false in
+    let request = sym is.ensures ∙ c.if-not-is_bootrequest.false in
     c.read_options.ensures ∙ answer_options m (omega arith) (omega arith) request (omega arith)

@@ -20,32 +20,32 @@ returns-then-name c = c.refused-then-name.ensures ∙ sym (rw (c.if-duid.false, 
 pub returns-then-not-is_duid : goal.returns-then-not-is_duid
 unfolding judged
 returns-then-not-is_duid c =
-    c.refused-then-not-is_duid.ensures ∙ sym (rw (c.if-duid.false, c.if-name.false, sym c.is_duid.ensures, not-true c.is_duid.result c.if-not-is_duid.true))
+    c.refused-then-not-is_duid.ensures ∙ sym (rw (c.if-duid.false, c.if-name.false, sym c.is_duid.ensures, c.if-not-is_duid.true))
 
 pub returns-then-not-is_name : goal.returns-then-not-is_name
 unfolding judged
 returns-then-not-is_name c =
-    let duid = not-false c.is_duid.result c.if-not-is_duid.false in
+    let duid = c.if-not-is_duid.false in
     c.accepted.ensures
-    ∙ sym (rw (c.if-duid.false, c.if-name.false, sym c.is_duid.ensures, duid, sym c.is_name.ensures, not-true c.is_name.result c.if-not-is_name.true))
+    ∙ sym (rw (c.if-duid.false, c.if-name.false, sym c.is_duid.ensures, duid, sym c.is_name.ensures, c.if-not-is_name.true))
 
 pub overflow_add-part : goal.overflow_add-part
 overflow_add-part c =
     let s = c.args.level.name in
-    let named : is_name s ≡ true = sym c.is_name.ensures ∙ not-false c.is_name.result c.if-not-is_name.false in
+    let named : is_name s ≡ true = sym c.is_name.ensures ∙ c.if-not-is_name.false in
     let some_bytes : 1 ≤ s.part.len = leb-true 1 s.part.len (and_right s.found (leb 1 s.part.len) named) in
     record { fits = omega (arith, c.requires, some_bytes) }
 
 pub overflow_sub-part : goal.overflow_sub-part
 overflow_sub-part c =
     let s = c.args.level.name in
-    let named : is_name s ≡ true = sym c.is_name.ensures ∙ not-false c.is_name.result c.if-not-is_name.false in
+    let named : is_name s ≡ true = sym c.is_name.ensures ∙ c.if-not-is_name.false in
     let some_bytes : 1 ≤ s.part.len = leb-true 1 s.part.len (and_right s.found (leb 1 s.part.len) named) in
     some_bytes
 
 pub returns : goal.returns
 unfolding judged
 returns c =
-    let duid = not-false c.is_duid.result c.if-not-is_duid.false in
+    let duid = c.if-not-is_duid.false in
     c.accepted-2.ensures
-    ∙ sym (rw (c.if-duid.false, c.if-name.false, sym c.is_duid.ensures, duid, sym c.is_name.ensures, not-false c.is_name.result c.if-not-is_name.false))
+    ∙ sym (rw (c.if-duid.false, c.if-name.false, sym c.is_duid.ensures, duid, sym c.is_name.ensures, c.if-not-is_name.false))

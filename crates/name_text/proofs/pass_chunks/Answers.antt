@@ -20,7 +20,7 @@ returns-then-not-is_dotless c = let h = c.loop-i.invariant in (h.from, h.low)
 pub loop-i-preserved : goal.loop-i-preserved
 loop-i-preserved c =
     passing_more _ _ c.loop-i.i 16 c.loop-i.invariant (omega (arith, c.loop-i.invariant.within, c.loop-i-test.true))
-    (c.is_dotless.ensures.if_true (not-false _ c.if-not-is_dotless.false))
+    (c.is_dotless.ensures.if_true c.if-not-is_dotless.false)
 
 pub returns : goal.returns
 returns c = let h = c.loop-i.invariant in (h.from, h.low)

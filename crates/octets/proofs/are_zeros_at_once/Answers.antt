@@ -33,8 +33,8 @@ loop-i-preserved c =
     record {
       low = omega arith;
       forth = λ z.
-          let none-set = or_none_lem l.bits (get_or b l.i 0) z in
-          take_more b (zeros b) l.i (l.invariant.forth none-set.0) (none-set.1 ∙ sym zero-there) more (omega (arith, length-replicate {A = ℕ} (length b) 0));
+          let none_set = or_none_lem l.bits (get_or b l.i 0) z in
+          take_more b (zeros b) l.i (l.invariant.forth none_set.0) (none_set.1 ∙ sym zero-there) more (omega (arith, length-replicate {A = ℕ} (length b) 0));
       back = λ e. ap₂ bit_or (l.invariant.back e) (ap (λ (t : List ℕ). get_or t l.i 0) e ∙ zero-there);
     }
 

@@ -27,12 +27,12 @@ same_chunk-requires c =
 
 pub returns-then-not-same_chunk : goal.returns-then-not-same_chunk
 returns-then-not-same_chunk c =
-    chunk_differs _ _ c.loop-at.at (c.same_chunk.ensures.if_false (not-true _ c.if-not-same_chunk.true))
+    chunk_differs _ _ c.loop-at.at (c.same_chunk.ensures.if_false c.if-not-same_chunk.true)
 
 pub loop-at-preserved : goal.loop-at-preserved
 loop-at-preserved c =
     let h = c.loop-at.invariant in
-    (omega (arith, h.0, c.loop-at-test.true), chunk_more _ _ c.loop-at.at h.1 (c.same_chunk.ensures.if_true (not-false _ c.if-not-same_chunk.false)))
+    (omega (arith, h.0, c.loop-at-test.true), chunk_more _ _ c.loop-at.at h.1 (c.same_chunk.ensures.if_true c.if-not-same_chunk.false))
 
 pub same_from-requires : goal.same_from-requires
 same_from-requires c = (c.loop-at.invariant.0, c.if-a-b.false)

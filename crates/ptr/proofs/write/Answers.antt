@@ -15,7 +15,7 @@ use Rattle.ptr.proofs.write.Goals as goal
 
 pub returns-then-not-is_family : goal.returns-then-not-is_family
 returns-then-not-is_family c =
-    PtrWritten.faulty (inl (c.is_family.ensures.if_false (not-true c.is_family.result c.if-not-is_family.true), refl)) c.refused.ensures refl
+    PtrWritten.faulty (inl (c.is_family.ensures.if_false c.if-not-is_family.true, refl)) c.refused.ensures refl
 
 -- behind the first test: the family is known, and this is the size of its addresses
 known : (c : goal.After-address_size)
@@ -23,7 +23,7 @@ known : (c : goal.After-address_size)
     KnownFamily n × (c.address_size.result ≡ address_size (family_of n))
 known c =
     (
-      c.is_family.ensures.if_true (not-false c.is_family.result c.if-not-is_family.false),
+      c.is_family.ensures.if_true c.if-not-is_family.false,
       c.address_size.ensures ∙ ap address_size c.family_of-version.ensures,
     )
 

@@ -40,7 +40,7 @@ unfolding IsReverseSlot
 returns-then-not-is_reverse_slot c =
     let b = c.args.reverse.now in
     let i = c.loop-i.i in
-    let no-slot-here = c.is_reverse_slot.ensures.if_false (not-true c.is_reverse_slot.result c.if-not-is_reverse_slot.true) in
+    let no-slot-here = c.is_reverse_slot.ensures.if_false c.if-not-is_reverse_slot.true in
     no_by (row_no_slot slot_bytes reverse_slot_size WellFormed length_slot some_bytes slot_marked most_addresses b i c.loop-i.invariant c.loop-i-test.true c.if-reverse-at-eq0.false
     (λ e w there. no-slot-here (e, w, slot-part b (reverse_slot_size * i) ∙ there)))
 
@@ -49,7 +49,7 @@ unfolding IsReverseSlot
 loop-i-preserved c =
     let b = c.args.reverse.now in
     let i = c.loop-i.i in
-    let slot = c.is_reverse_slot.ensures.if_true (not-false c.is_reverse_slot.result c.if-not-is_reverse_slot.false) in
+    let slot = c.is_reverse_slot.ensures.if_true c.if-not-is_reverse_slot.false in
     row_reached_more slot_bytes reverse_slot_size WellFormed length_slot some_bytes slot_marked most_addresses b i c.loop-i.invariant c.loop-i-test.true c.if-reverse-at-eq0.false slot.0 slot.1
     (sym (slot-part b (reverse_slot_size * i)) ∙ slot.2)
 

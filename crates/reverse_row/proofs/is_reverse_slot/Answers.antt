@@ -13,7 +13,7 @@ use Rattle.reverse_row.proofs.is_reverse_slot.Goals as goal
 pub returns-then-not-is_key : goal.returns-then-not-is_key
 returns-then-not-is_key c =
     let key = c.is_key in
-    no_by (λ h. key.ensures.if_false (not-true key.result c.if-not-is_key.true) (slot_is_key _ h))
+    no_by (λ h. key.ensures.if_false c.if-not-is_key.true (slot_is_key _ h))
 
 pub returns : goal.returns
 returns c =
@@ -21,6 +21,6 @@ returns c =
     let s = c.args.slot.now in
     let rest : take name_size (drop key_size s) ≡ drop key_size s = take_all name_size (drop key_size s) (simp length-drop (omega arith)) in
     decides_as
-    (λ field. is_slot s (key.ensures.if_true (not-false key.result c.if-not-is_key.false)) (subst NameField rest field))
+    (λ field. is_slot s (key.ensures.if_true c.if-not-is_key.false) (subst NameField rest field))
     (λ h. subst NameField (sym rest) (slot_name_field s h))
     c.is_name_field.ensures

@@ -9,15 +9,15 @@ pub returns-then-reverse-ne-SIZE : goal.returns-then-reverse-ne-SIZE
 returns-then-reverse-ne-SIZE c = no_by (λ s. c.if-reverse-ne-SIZE.true (length_side most_addresses s.names _ s.slots))
 
 pub returns-then-not-are_slots : goal.returns-then-not-are_slots
-returns-then-not-are_slots c = no_by (λ s. c.are_slots.ensures.if_false (not-true c.are_slots.result c.if-not-are_slots.true) (s.names, s.slots))
+returns-then-not-are_slots c = no_by (λ s. c.are_slots.ensures.if_false c.if-not-are_slots.true (s.names, s.slots))
 
 pub no_address_twice-requires : goal.no_address_twice-requires
-no_address_twice-requires c = c.are_slots.ensures.if_true (not-false c.are_slots.result c.if-not-are_slots.false)
+no_address_twice-requires c = c.are_slots.ensures.if_true c.if-not-are_slots.false
 
 pub returns : goal.returns
 returns c =
     let slots = c.are_slots in
-    let rs = slots.ensures.if_true (not-false slots.result c.if-not-are_slots.false) in
+    let rs = slots.ensures.if_true c.if-not-are_slots.false in
     let d = c.no_address_twice.ensures in
     record {
       if_true = λ yes-all. record { names = rs.0; slots = rs.1; single = (d rs.0 rs.1).if_true yes-all };

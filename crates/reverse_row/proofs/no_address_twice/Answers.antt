@@ -20,7 +20,7 @@ is_first-requires c =
 pub returns-then-not-is_first : goal.returns-then-not-is_first
 returns-then-not-is_first c = λ rs h.
     let i = c.loop-i.i in
-    no_by (λ single. c.is_first.ensures.if_false (not-true c.is_first.result c.if-not-is_first.true)
+    no_by (λ single. c.is_first.ensures.if_false c.if-not-is_first.true
     (λ j before same. single_apart most_addresses rs _ h single i j (omega (arith, c.loop-i-test.true, c.count-used.ensures rs h)) before same))
 
 pub loop-i-preserved : goal.loop-i-preserved
@@ -30,7 +30,7 @@ loop-i-preserved c = λ k j lt before same.
     by_ltb k i (λ earlier. c.loop-i.invariant k j earlier before same)
     (λ last.
     let here : k ≡ i = omega arith in
-    c.is_first.ensures.if_true (not-false c.is_first.result c.if-not-is_first.false) j (omega (arith, before, here)) (same ∙ ap (key_at b) here))
+    c.is_first.ensures.if_true c.if-not-is_first.false j (omega (arith, before, here)) (same ∙ ap (key_at b) here))
 
 pub returns : goal.returns
 returns c = λ rs h.

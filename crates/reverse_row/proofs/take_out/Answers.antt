@@ -52,7 +52,7 @@ slice_bounds-matches-end c = omega (arith, within c.before.before, c.slice_known
 
 pub returns-then-not-matches : goal.returns-then-not-matches
 returns-then-not-matches c = λ rs h.
-    let differs = c.matches.ensures.if_false (not-true c.matches.result c.if-not-matches.true) in
+    let differs = c.matches.ensures.if_false c.if-not-matches.true in
     let a = c.args in
     let b = a.reverse.now in
     let i = c.find-i.result in
@@ -70,7 +70,7 @@ close_up-requires c = omega (arith, within c.before.before.before.before.before.
 
 pub returns : goal.returns
 returns c = λ rs h.
-    let same = c.matches.ensures.if_true (not-false c.matches.result c.if-not-matches.false) in
+    let same = c.matches.ensures.if_true c.if-not-matches.false in
     let a = c.args in
     let b = a.reverse.now in
     let i = c.find-i.result in

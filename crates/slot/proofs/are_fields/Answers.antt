@@ -16,12 +16,12 @@ returns-then-flags-gt-ALL c = no_by (λ h. omega arith)
 pub returns-then-not-is_zero_unless_set : goal.returns-then-not-is_zero_unless_set
 returns-then-not-is_zero_unless_set c =
     let is = c.is_zero_unless_set in
-    no_by (λ h. is.ensures.if_false (not-true is.result c.if-not-is_zero_unless_set.true) h.a)
+    no_by (λ h. is.ensures.if_false c.if-not-is_zero_unless_set.true h.a)
 
 pub returns-then-not-is_zero_unless_set-2 : goal.returns-then-not-is_zero_unless_set-2
 returns-then-not-is_zero_unless_set-2 c =
     let is = c.is_zero_unless_set-2 in
-    no_by (λ h. is.ensures.if_false (not-true is.result c.if-not-is_zero_unless_set-2.true) h.aaaa)
+    no_by (λ h. is.ensures.if_false c.if-not-is_zero_unless_set-2.true h.aaaa)
 
 pub returns-then-is_set : goal.returns-then-is_set
 returns-then-is_set c =
@@ -30,8 +30,8 @@ returns-then-is_set c =
     let aaaa = c.is_zero_unless_set-2 in
     fields_if_held (get_or s 256 0) (take 4 (drop 257 s)) (take 16 (drop 261 s)) (take 35 (drop 277 s))
     (omega arith) (omega arith)
-    (a.ensures.if_true (not-false a.result c.if-not-is_zero_unless_set.false))
-    (aaaa.ensures.if_true (not-false aaaa.result c.if-not-is_zero_unless_set-2.false))
+    (a.ensures.if_true c.if-not-is_zero_unless_set.false)
+    (aaaa.ensures.if_true c.if-not-is_zero_unless_set-2.false)
     c.is_well_formed.result
     (sym c.is_set.ensures ∙ c.if-is_set.true)
     c.is_well_formed.ensures
@@ -43,8 +43,8 @@ returns c =
     let aaaa = c.is_zero_unless_set-2 in
     fields_if_by_hand (get_or s 256 0) (take 4 (drop 257 s)) (take 16 (drop 261 s)) (take 35 (drop 277 s))
     (omega arith) (omega arith)
-    (a.ensures.if_true (not-false a.result c.if-not-is_zero_unless_set.false))
-    (aaaa.ensures.if_true (not-false aaaa.result c.if-not-is_zero_unless_set-2.false))
+    (a.ensures.if_true c.if-not-is_zero_unless_set.false)
+    (aaaa.ensures.if_true c.if-not-is_zero_unless_set-2.false)
     c.are_zeros_at_once.result
     (sym c.is_set.ensures ∙ c.if-is_set.false)
     c.are_zeros_at_once.ensures

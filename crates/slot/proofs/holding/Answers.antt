@@ -14,7 +14,7 @@ bounds-slot-256 c = omega (arith, long (of_slot c.args.slot.now c.requires))
 
 pub returns-then-not-is_set : goal.returns-then-not-is_set
 returns-then-not-is_set c =
-    λ e w form. by_hand c.args.dhcid.now e.holder (sym (held_flag (slot_of_lem w form)) ∙ sym c.is_set.ensures ∙ not-true c.is_set.result c.if-not-is_set.true)
+    λ e w form. by_hand c.args.dhcid.now e.holder (sym (held_flag (slot_of_lem w form)) ∙ sym c.is_set.ensures ∙ c.if-not-is_set.true)
 
 pub slice_bounds-same-end : goal.slice_bounds-same-end
 slice_bounds-same-end c = omega (arith, long (of_slot c.args.slot.now c.requires))
@@ -24,7 +24,7 @@ returns-then-same c =
     let d = c.args.dhcid.now in
     λ e w form.
     let s = slot_of_lem w form in
-    held_by d e.holder true (sym (held_flag s) ∙ sym c.is_set.ensures ∙ not-false c.is_set.result c.if-not-is_set.false)
+    held_by d e.holder true (sym (held_flag s) ∙ sym c.is_set.ensures ∙ c.if-not-is_set.false)
     (sym (ap (λ (l : List ℕ). eq_bytes l d) (holder_at s)) ∙ sym c.same.ensures ∙ c.if-same.true)
 
 pub returns-else-same : goal.returns-else-same
@@ -32,5 +32,5 @@ returns-else-same c =
     let d = c.args.dhcid.now in
     λ e w form.
     let s = slot_of_lem w form in
-    held_by d e.holder false (sym (held_flag s) ∙ sym c.is_set.ensures ∙ not-false c.is_set.result c.if-not-is_set.false)
+    held_by d e.holder false (sym (held_flag s) ∙ sym c.is_set.ensures ∙ c.if-not-is_set.false)
     (sym (ap (λ (l : List ℕ). eq_bytes l d) (holder_at s)) ∙ sym c.same.ensures ∙ c.if-same.false)

@@ -21,7 +21,7 @@ pub returns-then-not-is_held_name : goal.returns-then-not-is_held_name
 returns-then-not-is_held_name c =
     let s = c.args.field.now in
     let is = c.is_held_name in
-    no_by (λ h. is.ensures.if_false (not-true is.result c.if-not-is_held_name.true) (field_held s (1 + get_or s 0 0) refl (omega (arith, c.type_inv.field 0)) h))
+    no_by (λ h. is.ensures.if_false c.if-not-is_held_name.true (field_held s (1 + get_or s 0 0) refl (omega (arith, c.type_inv.field 0)) h))
 
 pub slice_bounds-are_zeros_by_chunks-count : goal.slice_bounds-are_zeros_by_chunks-count
 slice_bounds-are_zeros_by_chunks-count c = omega (arith, c.type_inv.field 0)
@@ -35,6 +35,6 @@ returns c =
     let byte = c.type_inv.field 0 in
     let name = c.is_held_name in
     decides_as
-    (is_field s (1 + get_or s 0 0) refl (omega (arith, byte)) c.requires (name.ensures.if_true (not-false name.result c.if-not-is_held_name.false)))
+    (is_field s (1 + get_or s 0 0) refl (omega (arith, byte)) c.requires (name.ensures.if_true c.if-not-is_held_name.false))
     (field_rest s (1 + get_or s 0 0) refl (omega (arith, byte)))
     c.are_zeros_by_chunks.ensures

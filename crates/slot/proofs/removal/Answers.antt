@@ -3,7 +3,7 @@ use mathlib.Core.Path.{◌≡◌, refl, sym, ◌∙◌}
 use borrow.Author.Tests.{not-true, not-false}
 use borrow.Author.Rules.{rules}
 use Rattle.base.specs.Bytes.{eq_bytes}
-use Rattle.slots.specs.Effect.{deleted, hasAddress}
+use Rattle.slots.specs.Effect.{deleted, has_address}
 use Rattle.slots.specs.Entry.{address_of}
 use Rattle.slots.specs.Form.{TableEntry, WellFormed, slot_bytes}
 use Rattle.slots.specs.Promise.{holding, is_address}
@@ -15,7 +15,7 @@ pub returns-then-not-has_address : goal.returns-then-not-has_address
 returns-then-not-has_address c =
     let k = c.holding-holder in
     let a = c.has_address in
-    λ e w form. rw (sym (k.ensures e w form) ∙ c.in-ByThis.is, sym (a.ensures e w form) ∙ not-true a.result c.if-not-has_address.true) refl
+    λ e w form. rw (sym (k.ensures e w form) ∙ c.in-ByThis.is, sym (a.ensures e w form) ∙ c.if-not-has_address.true) refl
 
 pub returns-in-ByHand : goal.returns-in-ByHand
 returns-in-ByHand c = λ e w form. rw (sym (c.holding-holder.ensures e w form) ∙ c.in-ByHand.is) refl
@@ -24,14 +24,14 @@ returns-in-ByHand c = λ e w form. rw (sym (c.holding-holder.ensures e w form) �
 held : (h : goal.After-has)
     → let a = h.args in
     (e : TableEntry) → WellFormed e → a.slot.now ≡ slot_bytes e
-    → (holding eq_bytes e.holder a.dhcid.now ≡ ByThis) × (is_address (address_of a.family e) a.address.now ≡ true) × (hasAddress (deleted a.family e) ≡ h.has.result)
+    → (holding eq_bytes e.holder a.dhcid.now ≡ ByThis) × (is_address (address_of a.family e) a.address.now ≡ true) × (has_address (deleted a.family e) ≡ h.has.result)
 held h = λ e w form.
     let k = h.holding-holder in
     let a = h.has_address in
     let o = h.other in
     let t = h.address_type in (
       sym (k.ensures e w form) ∙ h.in-ByThis.is,
-      sym (a.ensures e w form) ∙ not-false a.result h.if-not-has_address.false,
+      sym (a.ensures e w form) ∙ h.if-not-has_address.false,
       sym (left_in h.args.family o.result t.result e o.ensures t.ensures) ∙ sym (h.has.ensures e w form),
     )
 

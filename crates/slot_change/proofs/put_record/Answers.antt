@@ -1,4 +1,4 @@
-use Rattle.slots.proofs.EffectLaws.{slot_of_lem, of_slot, long, small, field_put}
+use Rattle.slots.proofs.EffectLaws.{slot_of_lem, of_slot, long, small, field_put_lem}
 use borrow.Author.Rules.{rules}
 use Rattle.slot_change.proofs.put_record.Goals as goal
 
@@ -10,4 +10,4 @@ put_data-requires c =
 pub returns : goal.returns
 returns c =
     let a = c.args in
-    λ e w form. (field_put (slot_of_lem w form) a.rtype a.bytes.now c.requires.1 c.put_data.ensures).form
+    λ e w form. (field_put_lem (slot_of_lem w form) a.rtype a.bytes.now c.requires.1 c.put_data.ensures).form

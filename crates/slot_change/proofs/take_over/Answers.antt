@@ -3,7 +3,7 @@ use mathlib.Core.Option.{none, some}
 use native.Mathlib.Omega.{arith}
 use borrow.Author.Rules.{rules}
 use Rattle.slots.specs.declared.Family.{Family}
-use Rattle.slots.specs.Entry.{withAddress, withHolder}
+use Rattle.slots.specs.Entry.{with_address, with_holder}
 use Rattle.slots.specs.Form.{slot_bytes}
 use Rattle.slots.proofs.EffectLaws.{slot_of_lem, of_slot, long, small, holder_put, address_cleared, address_put}
 use Rattle.slot_change.proofs.take_over.Goals as goal
@@ -32,4 +32,4 @@ returns c =
     let held = holder_put (slot_of_lem w form) a.dhcid.now c.requires.1 c.put_field.ensures in
     let cleared = address_cleared held c.other.result c.clear_address.ensures in
     (address_put cleared a.family a.address.now c.requires.2 c.put_address.ensures).form
-    ∙ ap (λ (f : Family). slot_bytes (withAddress a.family (some a.address.now) (withAddress f none (withHolder a.dhcid.now e)))) c.other.ensures
+    ∙ ap (λ (f : Family). slot_bytes (with_address a.family (some a.address.now) (with_address f none (with_holder a.dhcid.now e)))) c.other.ensures

@@ -28,7 +28,7 @@ returns-then-not-is_slot c =
     let b = c.args.table.now in
     let at = slot_size * c.loop-i.i in
     let size : at + slot_size - at ≡ slot_size = omega arith in
-    let no-slot-here = c.is_slot.ensures.if_false (not-true _ c.if-not-is_slot.true) in
+    let no-slot-here = c.is_slot.ensures.if_false c.if-not-is_slot.true in
     no_by (no_slot most_names b c.loop-i.i c.loop-i.invariant c.loop-i-test.true c.if-table-at-eq0.false (λ s. no-slot-here (rw size s)))
 
 pub loop-i-preserved : goal.loop-i-preserved
@@ -37,7 +37,7 @@ loop-i-preserved c =
     let at = slot_size * c.loop-i.i in
     let size : at + slot_size - at ≡ slot_size = omega arith in
     reached_more most_names b c.loop-i.i c.loop-i.invariant c.loop-i-test.true c.if-table-at-eq0.false
-    (rw size at (c.is_slot.ensures.if_true (not-false _ c.if-not-is_slot.false)))
+    (rw size at (c.is_slot.ensures.if_true c.if-not-is_slot.false))
 
 pub returns : goal.returns
 returns c =

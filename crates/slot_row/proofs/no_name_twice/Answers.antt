@@ -29,14 +29,14 @@ pub returns-then-not-is_first : goal.returns-then-not-is_first
 returns-then-not-is_first c = λ t h.
     let s = c.loop-i.invariant t h in
     let u = some_at most_names t _ h c.loop-i.i s.low c.loop-i-test.true c.if-table-i-eq0.false in
-    no_by (λ d. (c.is_first.ensures t h u.entry u.later u.order).if_false (not-true _ c.if-not-is_first.true) (distinct_own t c.loop-i.i u.entry u.later (entry_at t c.loop-i.i u.entry u.later u.order) d))
+    no_by (λ d. (c.is_first.ensures t h u.entry u.later u.order).if_false c.if-not-is_first.true (distinct_own t c.loop-i.i u.entry u.later (entry_at t c.loop-i.i u.entry u.later u.order) d))
 
 pub loop-i-preserved : goal.loop-i-preserved
 loop-i-preserved c = λ t h.
     let s = c.loop-i.invariant t h in
     let u = some_at most_names t _ h c.loop-i.i s.low c.loop-i-test.true c.if-table-i-eq0.false in
     compared_more t c.loop-i.i s u.entry u.later (entry_at t c.loop-i.i u.entry u.later u.order)
-    ((c.is_first.ensures t h u.entry u.later u.order).if_true (not-false _ c.if-not-is_first.false))
+    ((c.is_first.ensures t h u.entry u.later u.order).if_true c.if-not-is_first.false)
 
 pub returns : goal.returns
 returns c = λ t h.

@@ -7,17 +7,17 @@ use Rattle.table.specs.Calls.{Counts}
 use Rattle.table.proofs.count.Goals as goal
 
 pub returns-then-not-is_sound : goal.returns-then-not-is_sound
-returns-then-not-is_sound c = Counts.not_sound (c.is_sound.ensures.if_false (not-true _ c.if-not-is_sound.true)) c.refused.ensures
+returns-then-not-is_sound c = Counts.not_sound (c.is_sound.ensures.if_false c.if-not-is_sound.true) c.refused.ensures
 
 pub count-requires : goal.count-requires
-count-requires c = let s = c.is_sound.ensures.if_true (not-false _ c.if-not-is_sound.false) in (s.table, s.slots)
+count-requires c = let s = c.is_sound.ensures.if_true c.if-not-is_sound.false in (s.table, s.slots)
 
 pub overflow_cast-result : goal.overflow_cast-result
 overflow_cast-result c =
-    let s = c.is_sound.ensures.if_true (not-false _ c.if-not-is_sound.false) in
+    let s = c.is_sound.ensures.if_true c.if-not-is_sound.false in
     omega (arith, c.count.ensures s.table s.slots, s.slots.room)
 
 pub returns : goal.returns
 returns c =
-    let s = c.is_sound.ensures.if_true (not-false _ c.if-not-is_sound.false) in
+    let s = c.is_sound.ensures.if_true c.if-not-is_sound.false in
     Counts.counted s (ap Accepted (c.count.ensures s.table s.slots))

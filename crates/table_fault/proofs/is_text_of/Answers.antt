@@ -38,7 +38,7 @@ returns-then-not-matches c =
     let n = c.args.name.now in
     let l = c.loop-at in
     let k = get_or n l.at 0 in
-    no_by (not_labelled w n c.requires l.at l.invariant k refl (omega arith) (l.at + k - l.at) (l.at + k + 1 - (l.at + 1)) (omega arith) (omega arith) c.matches-in-loop-at.result c.matches-in-loop-at.ensures (not-true _ c.if-not-matches.true))
+    no_by (not_labelled w n c.requires l.at l.invariant k refl (omega arith) (l.at + k - l.at) (l.at + k + 1 - (l.at + 1)) (omega arith) (omega arith) c.matches-in-loop-at.result c.matches-in-loop-at.ensures c.if-not-matches.true)
 
 pub loop-at-preserved : goal.loop-at-preserved
 loop-at-preserved c =
@@ -46,7 +46,7 @@ loop-at-preserved c =
     let n = c.args.name.now in
     let l = c.loop-at in
     let k = get_or n l.at 0 in
-    same_more w n c.requires l.at l.invariant k refl (omega arith) c.if-word-end-ne-DOT.false (l.at + k - l.at) (l.at + k + 1 - (l.at + 1)) (omega arith) (omega arith) c.matches-in-loop-at.result c.matches-in-loop-at.ensures (not-false _ c.if-not-matches.false)
+    same_more w n c.requires l.at l.invariant k refl (omega arith) c.if-word-end-ne-DOT.false (l.at + k - l.at) (l.at + k + 1 - (l.at + 1)) (omega arith) (omega arith) c.matches-in-loop-at.result c.matches-in-loop-at.ensures c.if-not-matches.false
 
 pub returns : goal.returns
 returns c =

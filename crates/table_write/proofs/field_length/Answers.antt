@@ -13,7 +13,7 @@ use Rattle.table_write.proofs.field_length.Goals as goal
 
 pub returns-then-not-has : goal.returns-then-not-has
 returns-then-not-has c =
-    λ e w form. sym (ap length (field_none c.args.rtype e (sym (c.has.ensures e w form) ∙ not-true c.has.result c.if-not-has.true)))
+    λ e w form. sym (ap length (field_none c.args.rtype e (sym (c.has.ensures e w form) ∙ c.if-not-has.true)))
 
 pub overflow_sub-result : goal.overflow_sub-result
 unfolding IsSlot
@@ -42,5 +42,5 @@ returns c =
     let k = c.args.rtype in
     let bs = c.data_from.result.now in
     λ e w form.
-    let held = sym (c.has.ensures e w form) ∙ not-false c.has.result c.if-not-has.false in
+    let held = sym (c.has.ensures e w form) ∙ c.if-not-has.false in
     omega (arith, c.rest_length.ensures, line_size k e bs (c.name_of-name.ensures e w form) c.rtype_number.ensures held (data_first (slot_of_lem w form) k c.data_from.ensures))

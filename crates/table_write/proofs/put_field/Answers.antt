@@ -18,7 +18,7 @@ has-requires c = fits_slot c.requires
 pub returns-then-not-has : goal.returns-then-not-has
 returns-then-not-has c =
     let a = c.args in
-    λ e w form. puts_none (field_text a.rtype e) a.at a.to.now (field_none a.rtype e (sym (c.has.ensures e w form) ∙ not-true c.has.result c.if-not-has.true))
+    λ e w form. puts_none (field_text a.rtype e) a.at a.to.now (field_none a.rtype e (sym (c.has.ensures e w form) ∙ c.if-not-has.true))
 
 pub name_of-name-requires : goal.name_of-name-requires
 name_of-name-requires c = fits_slot c.requires
@@ -32,7 +32,7 @@ sized : (d : goal.After-data_from-bytes)
     ≡ length d.name_of-name.result.now - 1 + length (rest_part d.rtype_number-number.result d.data_from-bytes.result.now)
 sized d =
     let f = d.requires in
-    let held = sym (d.has.ensures f.entry f.well_formed f.form) ∙ not-false d.has.result d.if-not-has.false in
+    let held = sym (d.has.ensures f.entry f.well_formed f.form) ∙ d.if-not-has.false in
     line_size d.args.rtype f.entry d.data_from-bytes.result.now (d.name_of-name.ensures f.entry f.well_formed f.form)
     d.rtype_number-number.ensures held (data_first (slot_of_lem f.well_formed f.form) d.args.rtype d.data_from-bytes.ensures)
 
@@ -66,6 +66,6 @@ pub returns : goal.returns
 returns c =
     let a = c.args in
     λ e w form.
-    let held = sym (c.has.ensures e w form) ∙ not-false c.has.result c.if-not-has.false in
+    let held = sym (c.has.ensures e w form) ∙ c.if-not-has.false in
     line_put a.rtype e c.data_from-bytes.result.now (c.name_of-name.ensures e w form) c.rtype_number-number.ensures held (data_first (slot_of_lem w form) a.rtype c.data_from-bytes.ensures)
     (omega (arith, c.requires.room)) refl c.put_text.ensures c.put_rest.ensures (ap (λ (n : ℕ). c.args.at + (length c.name_of-name.result.now - 1) + n) c.rest_length.ensures)

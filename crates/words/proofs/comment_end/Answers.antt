@@ -12,14 +12,14 @@ pub returns-then-not-is_comment_byte : goal.returns-then-not-is_comment_byte
 returns-then-not-is_comment_byte c =
     let t = c.args.text.now in
     let i = c.loop-i.i in
-    let e = sym c.is_comment_byte.ensures ∙ not-true _ c.if-not-is_comment_byte.true in
+    let e = sym c.is_comment_byte.ensures ∙ c.if-not-is_comment_byte.true in
     run_to is_comment_byte t c.args.at i (omega arith) (omega arith) (c.loop-i.invariant.same ∙ run_stops is_comment_byte t i (omega arith) e)
 
 pub loop-i-preserved : goal.loop-i-preserved
 loop-i-preserved c =
     let t = c.args.text.now in
     let i = c.loop-i.i in
-    let e = sym c.is_comment_byte.ensures ∙ not-false _ c.if-not-is_comment_byte.false in
+    let e = sym c.is_comment_byte.ensures ∙ c.if-not-is_comment_byte.false in
     record { from = omega arith; within = omega arith; same = c.loop-i.invariant.same ∙ run_goes_on is_comment_byte t i (omega arith) e }
 
 pub returns : goal.returns

@@ -5,7 +5,7 @@ use native.Mathlib.Omega.{arith}
 use lib.ListN.{length, drop}
 use borrow.Author.Rules.{rules}
 use borrow.Author.Tests.{not-true, not-false}
-use Rattle.grammar.specs.Listing.{blank, lineEnd, opening, closing, notAllowed, outside, inside}
+use Rattle.grammar.specs.Listing.{blank, line_end, opening, closing, not_allowed, outside, inside}
 use Rattle.grammar.specs.Scan.{plain, scan}
 use Rattle.words.specs.NextIs.{kind_meant, depth_of}
 use Rattle.words.proofs.PieceLaws.{at_byte, at_comment, at_word, at_text_end_lem}
@@ -23,18 +23,18 @@ returns-then-not-within c =
     let t = c.args.text.now in
     let i = c.loop-i.i in
     let e = sym c.kind_of.ensures ∙ ap kind_meant c.in-LineEnd.is in
-    record { after = omega arith; within = omega arith; ends = c.loop-i.invariant.same ∙ ap (λ (b : Bool). scan plain (depth_of b) (drop i t)) (not-true c.loop-i.within c.if-not-within.true) ∙ at_byte t i (omega arith) outside lineEnd e }
+    record { after = omega arith; within = omega arith; ends = c.loop-i.invariant.same ∙ ap (λ (b : Bool). scan plain (depth_of b) (drop i t)) c.if-not-within.true ∙ at_byte t i (omega arith) outside line_end e }
 
 pub loop-i-preserved-in-LineEnd : goal.loop-i-preserved-in-LineEnd
 loop-i-preserved-in-LineEnd c =
     let t = c.args.text.now in
     let i = c.loop-i.i in
     let e = sym c.kind_of.ensures ∙ ap kind_meant c.in-LineEnd.is in
-    let d = not-false c.loop-i.within c.if-not-within.false in
+    let d = c.if-not-within.false in
     record {
       from = omega arith;
       fits = omega arith;
-      same = c.loop-i.invariant.same ∙ ap (λ (b : Bool). scan plain (depth_of b) (drop i t)) (d) ∙ at_byte t i (omega arith) inside lineEnd e ∙ ap (λ (b : Bool). scan plain (depth_of b) (drop (i + 1) t)) (sym d);
+      same = c.loop-i.invariant.same ∙ ap (λ (b : Bool). scan plain (depth_of b) (drop i t)) (d) ∙ at_byte t i (omega arith) inside line_end e ∙ ap (λ (b : Bool). scan plain (depth_of b) (drop (i + 1) t)) (sym d);
     }
 
 pub returns-then-within : goal.returns-then-within
@@ -56,14 +56,14 @@ returns-then-not-within-2 c =
     let t = c.args.text.now in
     let i = c.loop-i.i in
     let e = sym c.kind_of.ensures ∙ ap kind_meant c.in-Closing.is in
-    c.loop-i.invariant.same ∙ ap (λ (b : Bool). scan plain (depth_of b) (drop i t)) (not-true c.loop-i.within c.if-not-within-2.true) ∙ at_byte t i (omega arith) outside closing e
+    c.loop-i.invariant.same ∙ ap (λ (b : Bool). scan plain (depth_of b) (drop i t)) c.if-not-within-2.true ∙ at_byte t i (omega arith) outside closing e
 
 pub loop-i-preserved-in-Closing : goal.loop-i-preserved-in-Closing
 loop-i-preserved-in-Closing c =
     let t = c.args.text.now in
     let i = c.loop-i.i in
     let e = sym c.kind_of.ensures ∙ ap kind_meant c.in-Closing.is in
-    record { from = omega arith; fits = omega arith; same = c.loop-i.invariant.same ∙ ap (λ (b : Bool). scan plain (depth_of b) (drop i t)) (not-false c.loop-i.within c.if-not-within-2.false) ∙ at_byte t i (omega arith) inside closing e }
+    record { from = omega arith; fits = omega arith; same = c.loop-i.invariant.same ∙ ap (λ (b : Bool). scan plain (depth_of b) (drop i t)) c.if-not-within-2.false ∙ at_byte t i (omega arith) inside closing e }
 
 pub loop-i-smaller : goal.loop-i-smaller
 loop-i-smaller c = omega (arith, c.comment_end-i.ensures.from, c.comment_end-i.ensures.within)
@@ -94,16 +94,16 @@ returns-in-NotAllowed c =
     let t = c.args.text.now in
     let i = c.loop-i.i in
     let e = sym c.kind_of.ensures ∙ ap kind_meant c.in-NotAllowed.is in
-    c.loop-i.invariant.same ∙ at_byte t i (omega arith) (depth_of c.loop-i.within) notAllowed e
+    c.loop-i.invariant.same ∙ at_byte t i (omega arith) (depth_of c.loop-i.within) not_allowed e
 
 pub returns-then-not-within-3 : goal.returns-then-not-within-3
 returns-then-not-within-3 c =
     let t = c.args.text.now in
     let i = c.loop-i.i in
-    c.loop-i.invariant.same ∙ ap (λ (b : Bool). scan plain (depth_of b) (drop i t)) (not-true c.loop-i.within c.if-not-within-3.true) ∙ at_text_end_lem t i outside (omega arith)
+    c.loop-i.invariant.same ∙ ap (λ (b : Bool). scan plain (depth_of b) (drop i t)) c.if-not-within-3.true ∙ at_text_end_lem t i outside (omega arith)
 
 pub returns : goal.returns
 returns c =
     let t = c.args.text.now in
     let i = c.loop-i.i in
-    c.loop-i.invariant.same ∙ ap (λ (b : Bool). scan plain (depth_of b) (drop i t)) (not-false c.loop-i.within c.if-not-within-3.false) ∙ at_text_end_lem t i inside (omega arith)
+    c.loop-i.invariant.same ∙ ap (λ (b : Bool). scan plain (depth_of b) (drop i t)) c.if-not-within-3.false ∙ at_text_end_lem t i inside (omega arith)

@@ -5,7 +5,7 @@ use native.Mathlib.Omega.{arith}
 use lib.ListN.{length, drop}
 use borrow.Author.Rules.{rules}
 use borrow.Author.Tests.{not-true, not-false}
-use Rattle.grammar.specs.Listing.{blank, lineEnd, opening, closing, notAllowed, outside, inside}
+use Rattle.grammar.specs.Listing.{blank, line_end, opening, closing, not_allowed, outside, inside}
 use Rattle.grammar.specs.Scan.{plain, scan}
 use Rattle.words.specs.NextIs.{kind_meant, depth_of}
 use Rattle.words.proofs.PieceLaws.{at_byte, at_comment, at_word, at_text_end_lem}

@@ -43,11 +43,11 @@ loop-i-2-init c = c.loop-i.invariant
 
 pub returns-then-not-is_word_byte : goal.returns-then-not-is_word_byte
 returns-then-not-is_word_byte c =
-    passed_stops is_word_byte _ _ c.loop-i-2.i c.loop-i-2.invariant c.loop-i-2-test.true (sym c.is_word_byte.ensures ∙ not-true _ c.if-not-is_word_byte.true)
+    passed_stops is_word_byte _ _ c.loop-i-2.i c.loop-i-2.invariant c.loop-i-2-test.true (sym c.is_word_byte.ensures ∙ c.if-not-is_word_byte.true)
 
 pub loop-i-2-preserved : goal.loop-i-2-preserved
 loop-i-2-preserved c =
-    passed_one is_word_byte _ _ c.loop-i-2.i c.loop-i-2.invariant c.loop-i-2-test.true (sym c.is_word_byte.ensures ∙ not-false _ c.if-not-is_word_byte.false)
+    passed_one is_word_byte _ _ c.loop-i-2.i c.loop-i-2.invariant c.loop-i-2-test.true (sym c.is_word_byte.ensures ∙ c.if-not-is_word_byte.false)
 
 pub returns : goal.returns
 returns c = passed_end is_word_byte _ _ c.loop-i-2.i c.loop-i-2.invariant c.loop-i-2-test.false

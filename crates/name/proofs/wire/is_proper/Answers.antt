@@ -43,7 +43,7 @@ returns-then-not-is_label_byte c =
     let n = c.args.name.now in
     let l = c.loop-i in
     decided n _
-    (at_other_byte n l.i (omega arith) l.left c.if-left-eq0.false (sym c.is_label_byte.ensures ∙ not-true _ c.if-not-is_label_byte.true) ∙ sym l.invariant.1)
+    (at_other_byte n l.i (omega arith) l.left c.if-left-eq0.false (sym c.is_label_byte.ensures ∙ c.if-not-is_label_byte.true) ∙ sym l.invariant.1)
     c.if-name-eq0-2.false (omega arith)
 
 pub loop-i-preserved : goal.loop-i-preserved

@@ -33,7 +33,7 @@ pub returns-then-not-matches_chunk : goal.returns-then-not-matches_chunk
 returns-then-not-matches_chunk c =
     let n = c.args.name.now in
     let m = c.args.held.now in
-    no_by (λ e. c.matches_chunk.ensures.if_false (not-true _ c.if-not-matches_chunk.true) (agree_same n m e _ _))
+    no_by (λ e. c.matches_chunk.ensures.if_false c.if-not-matches_chunk.true (agree_same n m e _ _))
 
 pub loop-i-preserved : goal.loop-i-preserved
 loop-i-preserved c =
@@ -41,7 +41,7 @@ loop-i-preserved c =
     let m = c.args.held.now in
     let l = c.loop-i in (
       omega (arith, l.invariant.0, c.loop-i-test.true),
-      agree_on n m 0 l.i (l.i + 16) l.invariant.1 (c.matches_chunk.ensures.if_true (not-false _ c.if-not-matches_chunk.false)),
+      agree_on n m 0 l.i (l.i + 16) l.invariant.1 (c.matches_chunk.ensures.if_true c.if-not-matches_chunk.false),
     )
 
 pub loop-i-2-init : goal.loop-i-2-init

@@ -14,7 +14,7 @@ returns-then-not-known c =
     let t : Test = record { number = 12; holds = a.known ≡ true } in
     let ts = name_tests most_names a.table.now a.name.now in
     let us = client_tests a.dhcid.now a.family a.address.now in
-    first_fails t ts us (eqb-false 12 0 refl) (λ known. false≢true (sym (not-true a.known c.if-not-known.true) ∙ known))
+    first_fails t ts us (eqb-false 12 0 refl) (λ known. false≢true (sym c.if-not-known.true ∙ known))
 
 pub returns-then-fault-ne0 : goal.returns-then-fault-ne0
 returns-then-fault-ne0 c =
@@ -23,7 +23,7 @@ returns-then-fault-ne0 c =
     let ts = name_tests most_names a.table.now a.name.now in
     let us = client_tests a.dhcid.now a.family a.address.now in
     let n = c.name_fault-fault.result in
-    part_fails t ts us (not-false a.known c.if-not-known.false) n c.if-fault-ne0.true (the_fault ts n c.if-fault-ne0.true c.name_fault-fault.ensures)
+    part_fails t ts us c.if-not-known.false n c.if-fault-ne0.true (the_fault ts n c.if-fault-ne0.true c.name_fault-fault.ensures)
 
 pub returns : goal.returns
 returns c =
@@ -31,4 +31,4 @@ returns c =
     let t : Test = record { number = 12; holds = a.known ≡ true } in
     let ts = name_tests most_names a.table.now a.name.now in
     let us = client_tests a.dhcid.now a.family a.address.now in
-    rest_judged t ts us (not-false a.known c.if-not-known.false) c.client_fault.result (all_hold ts c.name_fault-fault.result c.if-fault-ne0.false c.name_fault-fault.ensures) c.client_fault.ensures
+    rest_judged t ts us c.if-not-known.false c.client_fault.result (all_hold ts c.name_fault-fault.result c.if-fault-ne0.false c.name_fault-fault.ensures) c.client_fault.ensures

@@ -1,6 +1,6 @@
 use mathlib.Core.Path.{◌≡◌, sym, ap, ◌∙◌}
 use Rattle.base.specs.Bytes.{eq_bytes}
-use Rattle.slots.specs.Effect.{deleted, hasAddress}
+use Rattle.slots.specs.Effect.{deleted, has_address}
 use Rattle.slots.specs.Entry.{address_of}
 use Rattle.slots.specs.Form.{TableEntry, WellFormed, slot_bytes}
 use Rattle.slots.specs.Promise.{holding, is_address, removal}
@@ -17,7 +17,7 @@ removal-removal-requires c = rw (slot_size_lem c.args.at) c.requires.1
 said : (h : goal.After-removal-removal)
     → let a = h.args in
     (e : TableEntry) → WellFormed e → slot_at a.table.now a.at ≡ slot_bytes e
-    → h.removal-removal.result ≡ removal (holding eq_bytes e.holder a.dhcid.now) (is_address (address_of a.family e) a.address.now) (hasAddress (deleted a.family e))
+    → h.removal-removal.result ≡ removal (holding eq_bytes e.holder a.dhcid.now) (is_address (address_of a.family e) a.address.now) (has_address (deleted a.family e))
 said h = λ e w form. let a = h.args in h.removal-removal.ensures e w (lent_slot a.table.now a.at ∙ form)
 
 pub returns-in-Refused : goal.returns-in-Refused

@@ -25,13 +25,13 @@ use Rattle.update.proofs.call.write.Goals as goal
 
 -- behind the first test, the second, the third and the fourth
 known : (c : goal.Else-not-is_family) → KnownFamily c.args.family
-known c = c.is_family.ensures.if_true (not-false _ c.if-not-is_family.false)
+known c = c.is_family.ensures.if_true c.if-not-is_family.false
 
 placed : (c : goal.Else-not-is_in_zone) → let a = c.args in InZone a.name.now a.zone.now
-placed c = c.is_in_zone.ensures.decides.if_true (not-false _ c.if-not-is_in_zone.false)
+placed c = c.is_in_zone.ensures.decides.if_true c.if-not-is_in_zone.false
 
 formed : (c : goal.Else-not-is_well_formed) → well_formed c.args.dhcid.now ≡ true
-formed c = let w = c.is_well_formed in sym w.ensures ∙ not-false w.result c.if-not-is_well_formed.false
+formed c = let w = c.is_well_formed in sym w.ensures ∙ c.if-not-is_well_formed.false
 
 size : (c : goal.After-address_size) → c.address_size.result ≡ address_size (family_of c.args.family)
 size c = c.address_size.ensures ∙ ap address_size c.family_of-version.ensures
@@ -44,7 +44,7 @@ owner : (c : goal.Else-not-is_in_zone) → let n = c.args.name.now in
     (take (length n) c.is_in_zone.new.room ≡ canonical n) × (length n ≡ length (take (length n) c.is_in_zone.new.room))
 owner c =
     let n = c.args.name.now in
-    let e = owner_is _ _ n (c.is_in_zone.ensures.room_after (not-false _ c.if-not-is_in_zone.false)) in
+    let e = owner_is _ _ n (c.is_in_zone.ensures.room_after c.if-not-is_in_zone.false) in
     (e, sym (ap length e ∙ length_canonical n))
 
 -- none of what is lent is longer than it may be
@@ -65,18 +65,18 @@ long c =
 pub returns-then-not-is_family : goal.returns-then-not-is_family
 returns-then-not-is_family c =
     let f = c.is_family in
-    Written.faulty (inl (f.ensures.if_false (not-true f.result c.if-not-is_family.true), refl)) c.refused.ensures refl
+    Written.faulty (inl (f.ensures.if_false c.if-not-is_family.true, refl)) c.refused.ensures refl
 
 pub returns-then-not-is_in_zone : goal.returns-then-not-is_in_zone
 returns-then-not-is_in_zone c =
     let z = c.is_in_zone in
-    Written.faulty (inr (known c.before.before.before.before.before, inl (z.ensures.decides.if_false (not-true z.result c.if-not-is_in_zone.true), refl))) c.refused-then-not-is_in_zone.ensures refl
+    Written.faulty (inr (known c.before.before.before.before.before, inl (z.ensures.decides.if_false c.if-not-is_in_zone.true, refl))) c.refused-then-not-is_in_zone.ensures refl
 
 pub returns-then-not-is_well_formed : goal.returns-then-not-is_well_formed
 returns-then-not-is_well_formed c =
     let w = c.is_well_formed in
     Written.faulty
-    (inr (known c.before.before.before.before.before.before.before, inr (placed c.before.before.before, inl (λ good. false≢true (sym (sym w.ensures ∙ not-true w.result c.if-not-is_well_formed.true) ∙ good), refl)))) c.refused-then-not-is_well_formed.ensures refl
+    (inr (known c.before.before.before.before.before.before.before, inr (placed c.before.before.before, inl (λ good. false≢true (sym (sym w.ensures ∙ c.if-not-is_well_formed.true) ∙ good), refl)))) c.refused-then-not-is_well_formed.ensures refl
 
 pub returns-then-address-address_size : goal.returns-then-address-address_size
 returns-then-address-address_size c =

@@ -24,17 +24,17 @@ use Rattle.update.proofs.call.write_last.Goals as goal
 
 -- behind the first test and the second
 placed : (c : goal.Else-not-is_in_zone) → let a = c.args in InZone a.name.now a.zone.now
-placed c = c.is_in_zone.ensures.decides.if_true (not-false _ c.if-not-is_in_zone.false)
+placed c = c.is_in_zone.ensures.decides.if_true c.if-not-is_in_zone.false
 
 formed : (c : goal.Else-not-is_well_formed) → well_formed c.args.dhcid.now ≡ true
-formed c = let w = c.is_well_formed in sym w.ensures ∙ not-false w.result c.if-not-is_well_formed.false
+formed c = let w = c.is_well_formed in sym w.ensures ∙ c.if-not-is_well_formed.false
 
 -- the owner that is lent
 owner : (c : goal.Else-not-is_in_zone) → let n = c.args.name.now in
     (take (length n) c.is_in_zone.new.room ≡ canonical n) × (length n ≡ length (take (length n) c.is_in_zone.new.room))
 owner c =
     let n = c.args.name.now in
-    let e = owner_is _ _ n (c.is_in_zone.ensures.room_after (not-false _ c.if-not-is_in_zone.false)) in
+    let e = owner_is _ _ n (c.is_in_zone.ensures.room_after c.if-not-is_in_zone.false) in
     (e, sym (ap length e ∙ length_canonical n))
 
 -- none of what is lent is longer than it may be
@@ -52,12 +52,12 @@ long c = let a = c.args in sym (last_long a.id a.zone.now a.name.now a.dhcid.now
 pub returns-then-not-is_in_zone : goal.returns-then-not-is_in_zone
 returns-then-not-is_in_zone c =
     let z = c.is_in_zone in
-    Written.faulty (inl (z.ensures.decides.if_false (not-true z.result c.if-not-is_in_zone.true), refl)) c.refused.ensures refl
+    Written.faulty (inl (z.ensures.decides.if_false c.if-not-is_in_zone.true, refl)) c.refused.ensures refl
 
 pub returns-then-not-is_well_formed : goal.returns-then-not-is_well_formed
 returns-then-not-is_well_formed c =
     let w = c.is_well_formed in
-    Written.faulty (inr (placed c.before.before.before, inl (λ good. false≢true (sym (sym w.ensures ∙ not-true w.result c.if-not-is_well_formed.true) ∙ good), refl))) c.refused-then-not-is_well_formed.ensures refl
+    Written.faulty (inr (placed c.before.before.before, inl (λ good. false≢true (sym (sym w.ensures ∙ c.if-not-is_well_formed.true) ∙ good), refl))) c.refused-then-not-is_well_formed.ensures refl
 
 pub overflow_mul-len : goal.overflow_mul-len
 overflow_mul-len c = let h = short c in omega (arith, h.1)

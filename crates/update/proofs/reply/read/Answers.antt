@@ -34,10 +34,10 @@ pub returns-then-not-is_ours : goal.returns-then-not-is_ours
 returns-then-not-is_ours c =
     let g = header c.before.before.before.before.before.before.before.before in
     let id = number c.before.before.before.before in
-    ReadsReply.faulty (inr (g.0, inr (g.1, inr (g.2, inr (id, inl (c.is_ours.ensures.if_false (not-true _ c.if-not-is_ours.true), refl)))))) c.refused-then-not-is_ours.ensures
+    ReadsReply.faulty (inr (g.0, inr (g.1, inr (g.2, inr (id, inl (c.is_ours.ensures.if_false c.if-not-is_ours.true, refl)))))) c.refused-then-not-is_ours.ensures
 
 pub returns : goal.returns
 returns c =
     let g = header c.before.before.before.before.before.before.before in
     let id = number c.before.before.before in
-    ReadsReply.read (g.0, (g.1, (g.2, (id, (c.is_ours.ensures.if_true (not-false _ c.if-not-is_ours.false), tt))))) refl
+    ReadsReply.read (g.0, (g.1, (g.2, (id, (c.is_ours.ensures.if_true c.if-not-is_ours.false, tt))))) refl
