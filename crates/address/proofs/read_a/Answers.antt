@@ -17,7 +17,7 @@ pub returns-then-not-numbers : goal.returns-then-not-numbers
 returns-then-not-numbers c =
     let w = c.args.word.now in
     let r = c.read_fields-numbers in
-    none_read refl (λ bs s. not_found octets w r.result r.ensures c.if-not-numbers.true bs (a_fields w bs s)) refl
+    none_read refl (λ bs s. not_found octets w r.result r.ensures (not-true _ c.if-not-numbers.true) bs (a_fields w bs s)) refl
 
 pub loop-i-init : goal.loop-i-init
 loop-i-init c = filled_none _ _ _ refl
@@ -29,5 +29,5 @@ pub returns : goal.returns
 returns c =
     let w = c.args.word.now in
     let r = c.read_fields-numbers in
-    let y = was_found octets w r.result r.ensures c.if-not-numbers.false in
+    let y = was_found octets w r.result r.ensures (not-false _ c.if-not-numbers.false) in
     yes_read refl (a_read w r.result _ y (filled_all _ _ _ c.loop-i.i c.loop-i.invariant (omega arith)))

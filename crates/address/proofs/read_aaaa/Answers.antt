@@ -27,7 +27,7 @@ pub returns-then-not-numbers : goal.returns-then-not-numbers
 returns-then-not-numbers c =
     let w = c.args.word.now in
     let r = c.read_fields-numbers in
-    none_spelled w c.no_aaaa.ensures (λ bs s. not_found groups w r.result r.ensures c.if-not-numbers.true s.numbers (aaaa_fields w bs s))
+    none_spelled w c.no_aaaa.ensures (λ bs s. not_found groups w r.result r.ensures (not-true _ c.if-not-numbers.true) s.numbers (aaaa_fields w bs s))
 
 pub loop-i-init : goal.loop-i-init
 unfolding in_bytes
@@ -42,7 +42,7 @@ loop-i-preserved c =
     let values = c.read_fields-numbers.result.values in
     let eight : length values ≡ 8 = search rules in (
       omega arith,
-      c.put.auto.0 ∙ l.invariant.1,
+      c.put.auto.to ∙ l.invariant.1,
       in_bytes_more 2 values l.bytes _ _ l.i c.put.ensures c.be16_bytes-pair.ensures l.invariant.2 (omega arith) (omega arith),
     )
 
@@ -52,7 +52,7 @@ returns c =
     let r = c.read_fields-numbers in
     let l = c.loop-i in
     let eight : length r.result.values ≡ 8 = search rules in
-    let y = was_found groups w r.result r.ensures c.if-not-numbers.false in
+    let y = was_found groups w r.result r.ensures (not-false _ c.if-not-numbers.false) in
     yes_read refl
     (aaaa_read w r.result _ y
     (sym (take_all (2 * l.i) l.bytes (omega arith)) ∙ l.invariant.2 ∙ ap (in_bytes 2) (take_all l.i r.result.values (omega arith))))

@@ -12,7 +12,7 @@ use Rattle.dhcid.proofs.digest_of.Goals as goal
 pub slice_bounds-take-end : goal.slice_bounds-take-end
 slice_bounds-take-end c =
     let short = c.requires.name in
-    simp length-take (omega (arith, c.put_canonical.auto.0))
+    simp length-take (omega (arith, c.put_canonical.auto.to))
 
 pub returns : goal.returns
 unfolding identifier_bytes

@@ -13,13 +13,13 @@ returns-then-setting-ne-CLIENT_FIRST c =
 pub returns-then-not-request : goal.returns-then-not-request
 returns-then-not-request c =
     let start = c.args in
-    no_name start.setting start.message.now start.request c.if-setting-ne-CLIENT_FIRST.false c.if-not-request.true
+    no_name start.setting start.message.now start.request c.if-setting-ne-CLIENT_FIRST.false (not-true start.request.has_name c.if-not-request.true)
 
 pub part_of-requires : goal.part_of-requires
-part_of-requires c = c.requires c.if-not-request.false
+part_of-requires c = c.requires (not-false c.args.request.has_name c.if-not-request.false)
 
 pub returns : goal.returns
 returns c =
     let start = c.args in
     same_test _ c.is_proper.result c.is_proper.ensures ∙ ap is_proper c.part_of.ensures.bytes
-    ∙ with_name start.setting start.message.now start.request c.if-setting-ne-CLIENT_FIRST.false c.if-not-request.false
+    ∙ with_name start.setting start.message.now start.request c.if-setting-ne-CLIENT_FIRST.false (not-false start.request.has_name c.if-not-request.false)

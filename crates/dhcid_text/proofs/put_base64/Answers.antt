@@ -20,12 +20,12 @@ loop-k-preserved c =
     let g = c.put_group in
     let within : 3 * l.k + 2 < length a.dhcid.now = omega arith in (
       omega arith,
-      g.auto.0 ∙ l.invariant.1,
+      g.auto.to ∙ l.invariant.1,
       group_written a.dhcid.now l.k within a.to.now l.to g.new.to a.at _ (omega arith) l.invariant.2 c.digit64-fourth.ensures g.ensures,
     )
 
 pub shape_of-to : goal.shape_of-to
-shape_of-to c = c.put_group-2.auto.0 ∙ c.loop-k.invariant.1
+shape_of-to c = c.put_group-2.auto.to ∙ c.loop-k.invariant.1
 
 pub returns : goal.returns
 returns c =

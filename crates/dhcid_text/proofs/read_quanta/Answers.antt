@@ -85,7 +85,7 @@ loop-passed-preserved c =
       omega arith,
       fits,
       inr (omega arith, omega arith),
-      q.auto.0 ∙ l.invariant.3,
+      q.auto.bytes ∙ l.invariant.3,
       digits_passed w l.passed fits e₁ e₂ e₃ e₄ small l.invariant.4,
       λ f p cs h. quantum_passed w a.count l.passed l.bytes q.new.bytes _ (omega arith) digits q.ensures f p cs (l.invariant.5 f p cs h),
     )

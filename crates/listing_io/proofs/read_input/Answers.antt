@@ -11,7 +11,7 @@ overflow_add-len c =
     let l = c.loop-len in
     let i = c.read_some in
     let n = c.n-1.given in
-    let more = read_so_far l.text i.new.room l.len i.result n.0.0 i.ensures n.1 i.auto.0 l.invariant.0 in
+    let more = read_so_far l.text i.new.room l.len i.result n.0.0 i.ensures n.1 i.auto.room l.invariant.0 in
     omega arith
 
 pub loop-len-preserved : goal.loop-len-preserved
@@ -19,5 +19,5 @@ loop-len-preserved c =
     let l = c.loop-len in
     let i = c.read_some in
     let n = c.n-1.given in
-    let more = read_so_far l.text i.new.room l.len i.result n.0.0 i.ensures n.1 i.auto.0 l.invariant.0 in
+    let more = read_so_far l.text i.new.room l.len i.result n.0.0 i.ensures n.1 i.auto.room l.invariant.0 in
     search rules

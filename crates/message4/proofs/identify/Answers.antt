@@ -15,36 +15,36 @@ overflow_cast-hlen c = omega (arith, c.type_inv.message 2)
 pub returns-then-hlen-eq0 : goal.returns-then-hlen-eq0
 unfolding hlen
 returns-then-hlen-eq0 c =
-    let absent = c.if-not-client_id.true in
+    let absent = not-true c.args.client_id.found c.if-not-client_id.true in
     c.refused.ensures ∙ no_hardware c.args.message.now c.args.client_id c.args.name absent c.if-hlen-eq0.true
 
 pub returns-then-not-client_id : goal.returns-then-not-client_id
 unfolding hlen
 returns-then-not-client_id c =
-    let absent = c.if-not-client_id.true in
+    let absent = not-true c.args.client_id.found c.if-not-client_id.true in
     c.accepted.ensures ∙ by_hardware c.args.message.now c.args.client_id c.args.name absent c.if-hlen-eq0.false
 
 pub has_duid-requires : goal.has_duid-requires
 has_duid-requires c =
-    let found = c.if-not-client_id.false in
+    let found = not-false c.args.client_id.found c.if-not-client_id.false in
     c.requires.1 found
 
 pub overflow_add-part : goal.overflow_add-part
 overflow_add-part c =
-    let found = c.if-not-client_id.false in
+    let found = not-false c.args.client_id.found c.if-not-client_id.false in
     let duid = sym c.has_duid.ensures ∙ c.if-has_duid.true in
     omega (arith, c.requires.1 found, duid_least c.args.message.now c.args.client_id.part (c.requires.1 found) duid)
 
 pub overflow_sub-part : goal.overflow_sub-part
 overflow_sub-part c =
-    let found = c.if-not-client_id.false in
+    let found = not-false c.args.client_id.found c.if-not-client_id.false in
     let duid = sym c.has_duid.ensures ∙ c.if-has_duid.true in
     omega (arith, duid_least c.args.message.now c.args.client_id.part (c.requires.1 found) duid)
 
 pub returns-then-has_duid : goal.returns-then-has_duid
 returns-then-has_duid c =
     let p = c.args.client_id.part in
-    let found = c.if-not-client_id.false in
+    let found = not-false c.args.client_id.found c.if-not-client_id.false in
     let duid = sym c.has_duid.ensures ∙ c.if-has_duid.true in
     c.accepted-then-has_duid.ensures
     ∙ ap (λ (h : Part). accepted_as (record { type = 2; head = h; rest = record { start = p.start + 5; len = p.len - 5 } }) c.args.name)
@@ -53,13 +53,13 @@ returns-then-has_duid c =
 
 pub returns-then-part-lt2 : goal.returns-then-part-lt2
 returns-then-part-lt2 c =
-    let found = c.if-not-client_id.false in
+    let found = not-false c.args.client_id.found c.if-not-client_id.false in
     let duid = sym c.has_duid.ensures ∙ c.if-has_duid.false in
     c.refused-then-part-lt2.ensures ∙ too_short c.args.message.now c.args.client_id c.args.name found (c.requires.1 found) duid c.if-part-lt2.true
 
 pub returns : goal.returns
 returns c =
-    let found = c.if-not-client_id.false in
+    let found = not-false c.args.client_id.found c.if-not-client_id.false in
     let duid = sym c.has_duid.ensures ∙ c.if-has_duid.false in
     c.accepted-2.ensures
     ∙ ap (λ (h : Part). accepted_as (record { type = 1; head = h; rest = c.args.client_id.part }) c.args.name) c.no_part-2.ensures

@@ -12,5 +12,5 @@ returns c =
     let b = c.args.row.now in
     let zeros : List ℕ = replicate c.args.size 0 in
     c.put_zeros.ensures
-    ∙ (λ i. overlay (c.move_up.ensures i) (c.move_up.auto.0 i - c.args.size) zeros)
+    ∙ (λ i. overlay (c.move_up.ensures i) (c.move_up.auto.row i - c.args.size) zeros)
     ∙ closed_up_lem c.args.size b c.args.at c.requires

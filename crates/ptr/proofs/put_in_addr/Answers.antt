@@ -76,7 +76,7 @@ put-requires c =
     suffix_room V4 c.args.out.now c.args.address.now c.requires l.out l.end l.i l.invariant (omega arith) _ refl
 
 pub shape_of-out : goal.shape_of-out
-shape_of-out c = c.put.auto.0 ∙ c.loop-i.invariant.long
+shape_of-out c = c.put.auto.to ∙ c.loop-i.invariant.long
 
 pub returns : goal.returns
 unfolding ptr_name ptr_labels wire ascii

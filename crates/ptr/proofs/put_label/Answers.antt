@@ -9,7 +9,7 @@ use Rattle.base.proofs.Bytes.{set_overlay, overlay_append}
 use Rattle.ptr.proofs.put_label.Goals as goal
 
 pub shape_of-to : goal.shape_of-to
-shape_of-to c = c.put.auto.0 ∙ simp length-set
+shape_of-to c = c.put.auto.to ∙ simp length-set
 
 pub returns : goal.returns
 returns c =

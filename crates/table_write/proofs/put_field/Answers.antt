@@ -51,7 +51,7 @@ overflow_sub-rest c = named c.before.before.before.before.before.before
 
 pub put_rest-requires : goal.put_rest-requires
 put_rest-requires c =
-    let f = c.requires in record { rdata_len = (data_first (slot_of_lem f.well_formed f.form) c.args.rtype c.data_from-bytes.ensures).0; rdata_in_bounds = omega (arith, f.room, sized c.before.before.before.before.before, c.put_text.auto.0) }
+    let f = c.requires in record { rdata_len = (data_first (slot_of_lem f.well_formed f.form) c.args.rtype c.data_from-bytes.ensures).0; rdata_in_bounds = omega (arith, f.room, sized c.before.before.before.before.before, c.put_text.auto.to) }
 
 pub rest_length-requires : goal.rest_length-requires
 rest_length-requires c =

@@ -22,7 +22,7 @@ pub returns-then-table-start-eq0 : goal.returns-then-table-start-eq0
 returns-then-table-start-eq0 c =
     λ t h.
     let w = c.loop-i.invariant.1 t h in
-    written_end w (none_at most_names t _ h c.loop-i.i w.decreases.low c.if-table-start-eq0.true)
+    written_end w (none_at most_names t _ h c.loop-i.i w.measured.low c.if-table-start-eq0.true)
 
 pub overflow_add-start : goal.overflow_add-start
 overflow_add-start c =
@@ -35,17 +35,17 @@ slice_bounds-put_slot-end c =
 pub put_slot-at-requires : goal.put_slot-at-requires
 put_slot-at-requires c =
     let f = c.requires in
-    let m = (c.loop-i.invariant.1 f.table f.slots).decreases in
+    let m = (c.loop-i.invariant.1 f.table f.slots).measured in
     let u = used_slot f.table _ f.slots c.loop-i.i m.low c.loop-i-test.true c.if-table-start-eq0.false in
     record { entry = u.entry; well_formed = u.well_formed; form = u.form; room = omega (arith, f.room, measured_within m u.at, c.loop-i.invariant.0) }
 
 pub loop-i-preserved : goal.loop-i-preserved
 loop-i-preserved c =
     (
-      c.put_slot-at.auto.0 ∙ c.loop-i.invariant.0,
+      c.put_slot-at.auto.to ∙ c.loop-i.invariant.0,
       λ t h.
           let w = c.loop-i.invariant.1 t h in
-          let u = used_slot t _ h c.loop-i.i w.decreases.low c.loop-i-test.true c.if-table-start-eq0.false in
+          let u = used_slot t _ h c.loop-i.i w.measured.low c.loop-i-test.true c.if-table-start-eq0.false in
           written_more w u.at (c.put_slot-at.ensures u.entry u.well_formed u.form),
     )
 
@@ -56,4 +56,4 @@ pub returns : goal.returns
 returns c =
     λ t h.
     let w = c.loop-i.invariant.1 t h in
-    written_end w (no_more most_names t _ h c.loop-i.i w.decreases.low c.loop-i-test.false)
+    written_end w (no_more most_names t _ h c.loop-i.i w.measured.low c.loop-i-test.false)

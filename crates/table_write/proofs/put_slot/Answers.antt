@@ -17,7 +17,7 @@ put_field-dhcid-requires c =
       entry = f.entry;
       well_formed = f.well_formed;
       form = f.form;
-      room = omega (arith, f.room, length_entry f.entry, a.ends, c.put_field-aaaa.auto.0);
+      room = omega (arith, f.room, length_entry f.entry, a.ends, c.put_field-aaaa.auto.to);
     }
 
 pub put_field-requires : goal.put_field-requires
@@ -29,7 +29,7 @@ put_field-requires c =
       entry = f.entry;
       well_formed = f.well_formed;
       form = f.form;
-      room = omega (arith, f.room, length_entry f.entry, a.ends, aaaa.ends, c.put_field-aaaa.auto.0, c.put_field-dhcid.auto.0);
+      room = omega (arith, f.room, length_entry f.entry, a.ends, aaaa.ends, c.put_field-aaaa.auto.to, c.put_field-dhcid.auto.to);
     }
 
 pub returns : goal.returns

@@ -9,4 +9,4 @@ use Rattle.test_books.proofs.fill.Goals as goal
 pub loop-i-preserved : goal.loop-i-preserved
 loop-i-preserved c =
     let l = c.loop-i in
-    (c.add-answer.auto.0 ∙ l.invariant.0, ⊎_elim (λ w. omega arith) (λ w. omega arith) c.if-for_c-eq0.branch, omega arith)
+    (c.add-answer.auto.table ∙ l.invariant.0, ⊎_elim (λ w. omega arith) (λ w. omega arith) c.if-for_c-eq0.branch, omega arith)

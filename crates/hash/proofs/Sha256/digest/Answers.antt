@@ -20,7 +20,7 @@ loop-i-preserved c =
     let four : length c.to_be32-w.result ≡ 4 = search rules in
     let eight : length words ≡ 8 = search rules in (
       omega arith,
-      c.put.auto.0 ∙ l.invariant.1,
+      c.put.auto.to ∙ l.invariant.1,
       in_bytes_more 4 words l.bytes _ _ l.i c.put.ensures c.to_be32-w.ensures l.invariant.2 (omega arith) (omega arith),
     )
 

@@ -35,7 +35,7 @@ put-requires-2 c =
     simp length-set (omega (arith, c.requires))
 
 pub shape_of-to : goal.shape_of-to
-shape_of-to c = c.put-2.auto.0 ∙ simp length-set
+shape_of-to c = c.put-2.auto.to ∙ simp length-set
 
 pub returns : goal.returns
 returns c =

@@ -15,7 +15,7 @@ returns-then-value-eq0 c =
       is = λ h. absurd (h refl);
       not =
           λ e a.
-          let zeros = c.if-not-form.true in
+          let zeros = not-true _ c.if-not-form.true in
           omega (arith, a.leading zeros c.if-digits-gt0.true, c.if-value-eq0.true);
     }
 

@@ -92,7 +92,7 @@ returns-then-out-len c =
     (inr (known c.before.before.before.before.before.before.before.before.before.before.before.before, inr (placed c.before.before.before.before.before.before.before.before, inr (formed c.before.before.before.before.before.before, inr (sized c.before.before.before, inl (λ room. omega (arith, room, long c.before.before, c.if-out-len.true), refl)))))) c.refused-then-out-len.ensures refl
 
 pub slice_bounds-room-end : goal.slice_bounds-room-end
-slice_bounds-room-end c = let h = short c.before.before.before in omega (arith, h.1, c.is_in_zone.auto.0)
+slice_bounds-room-end c = let h = short c.before.before.before in omega (arith, h.1, c.is_in_zone.auto.room)
 
 pub slice_bounds-put_message-end : goal.slice_bounds-put_message-end
 slice_bounds-put_message-end c = (owner c.before.before.before.before.before.before.before.before.before).1

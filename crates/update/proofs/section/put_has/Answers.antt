@@ -9,4 +9,4 @@ use Rattle.update.proofs.section.put_has.Goals as goal
 pub returns : goal.returns
 returns c =
     let q1 = c.put_record-at in
-    let q2 = c.put_record-at-2 in record { value = omega (arith, q1.ensures.value, q2.ensures.value, c.requires.dhcid_len.0); to_after = two c.args.to.now _ _ _ _ _ (q1.ensures.value ∙ sym (length_rr _)) (omega (arith, q1.ensures.value, c.requires.dhcid_len.1.1)) q1.ensures.to_after q2.ensures.to_after ∙ ap (overlay _ 0) (section_two _ _) }
+    let q2 = c.put_record-at-2 in record { value = omega (arith, q1.ensures.value, q2.ensures.value, c.requires.dhcid_len); to_after = two c.args.to.now _ _ _ _ _ (q1.ensures.value ∙ sym (length_rr _)) (omega (arith, q1.ensures.value, c.requires.address_in_bounds)) q1.ensures.to_after q2.ensures.to_after ∙ ap (overlay _ 0) (section_two _ _) }
