@@ -3,13 +3,12 @@
 #![tactic(auto)]
 
 use base::Answer;
-use harness::{Line, first};
-use libc::STDOUT_FILENO;
+use harness::{Line, STDOUT, first};
 use listing::check;
 
 fn print(line: Line) {
     let bytes = line.bytes;
-    io::write_all(STDOUT_FILENO, first(&bytes, line.len));
+    io::write_all(STDOUT, first(&bytes, line.len));
 }
 
 fn show(label: &[u8], text: &[u8]) {

@@ -11,6 +11,11 @@ ghost use Rattle.harness.specs.Printing.{hexadecimal, refusal, resource_record, 
 use base::slice::put;
 use text::digit::hex_digit;
 
+// Standard input and output, as `io` takes them.
+pub const STDIN: i32 = 0;
+
+pub const STDOUT: i32 = 1;
+
 // Is each of the bytes b?
 pub fn is_all(bytes: &[u8], b: u8) -> bool
     ensures { Decides result (Every (λ x. x ≡ b) bytes.now) }

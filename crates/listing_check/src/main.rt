@@ -120,11 +120,12 @@ fn print_answer(text: &[u8]) -> bool {
     }
 }
 
-fn main() {
+fn main(rt: HostRuntime) {
     // The listing is checked whole before a record of it is printed, so all of it stands in memory; and there is no heap. Nothing copies it: every function
     // above is lent it, or a part.
     let mut text = [0u8; INPUT_LIMIT];
-    match read_input(&mut text) {
+    let mut input = rt.stdin();
+    match read_input(&mut input, &mut text) {
         Input::Failed => complain(b"listing_check: standard input could not be read\n"),
         Input::Read(n) => {
             if !print_answer(&text[..n]) {

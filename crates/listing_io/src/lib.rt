@@ -4,7 +4,12 @@
 
 ghost use Rattle.listing_io.specs.Coming as spec;
 
-use libc::{STDERR_FILENO, STDIN_FILENO, STDOUT_FILENO};
+use std::io::{Read, Stdin};
+
+// Standard output and the error stream, as `io` takes them.
+const STDOUT: i32 = 1;
+
+const STDERR: i32 = 2;
 
 // One byte more than the longest listing that the programs take: so much of a longer one is read, and no more. It is the programs' own number and
 // stays where it is if the library comes to take longer listings.
@@ -17,23 +22,22 @@ pub enum Input {
 }
 
 // Reads once from standard input into `room`: how many bytes came, none at the end of the input.
-fn read_some(room: &mut [u8]) -> Input
+fn read_some(input: &mut Stdin, room: &mut [u8]) -> Input
     ensures { spec.Came room.new result }
 {
-    let got = libc::read(STDIN_FILENO, room);
-    if got < 0 {
-        return Input::Failed;
+    match input.read(room) {
+        Ok(n) => Input::Read(n),
+        Err(_) => Input::Failed,
     }
-    Input::Read(io::count(got, room))
 }
 
 // Reads standard input to its end, or until `text` is full: how many bytes came.
-pub fn read_input(text: &mut [u8]) -> Input
+pub fn read_input(input: &mut Stdin, text: &mut [u8]) -> Input
     ensures { spec.Came text.new result }
 {
     let mut len: usize = 0;
     while len < text.len() {
-        match read_some(&mut text[len..]) {
+        match read_some(input, &mut text[len..]) {
             Input::Failed => return Input::Failed,
             Input::Read(n) => {
                 if n == 0 {
@@ -48,16 +52,16 @@ pub fn read_input(text: &mut [u8]) -> Input
 
 // Prints bytes on standard output. False where the output failed.
 pub fn print(bytes: &[u8]) -> bool {
-    io::write_all(STDOUT_FILENO, bytes)
+    io::write_all(STDOUT, bytes)
 }
 
 pub fn print_number(n: u64) -> bool {
-    io::print_decimal(STDOUT_FILENO, n)
+    io::print_decimal(STDOUT, n)
 }
 
 // Prints a line on the error stream.
 pub fn complain(line: &[u8]) {
-    io::write_all(STDERR_FILENO, line);
+    io::write_all(STDERR, line);
 }
 
 // Prints `refused NUMBER at OFFSET`.

@@ -221,10 +221,11 @@ fn print_answer(text: &[u8]) -> bool {
     }
 }
 
-fn main() {
+fn main(rt: HostRuntime) {
     // The listing is judged whole before anything is printed, so all of it stands in memory; and there is no heap.
     let mut text = [0u8; INPUT_LIMIT];
-    match read_input(&mut text) {
+    let mut input = rt.stdin();
+    match read_input(&mut input, &mut text) {
         Input::Failed => complain(b"load_check: standard input could not be read\n"),
         Input::Read(n) => {
             if !print_answer(&text[..n]) {

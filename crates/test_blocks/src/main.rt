@@ -5,8 +5,7 @@
 
 use base::Answer;
 use book_block::{KIND, write};
-use harness::{Line, first, is_all, put_fitting, rest};
-use libc::STDOUT_FILENO;
+use harness::{Line, STDOUT, first, is_all, put_fitting, rest};
 
 // What stands in an area before a call.
 const OLD: u8 = 170;
@@ -14,7 +13,7 @@ const OLD: u8 = 170;
 const TABLE: usize = slot_row::SIZE;
 
 fn print(bytes: &[u8]) {
-    io::write_all(STDOUT_FILENO, bytes);
+    io::write_all(STDOUT, bytes);
 }
 
 fn print_line(line: Line) {

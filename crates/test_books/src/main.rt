@@ -26,9 +26,8 @@ use block::seal;
 use book_block::KIND;
 use book_replay::{replay, sound_blocks, tidy};
 use check::same;
-use harness::{Line, find, first, is_all, put_fitting, rest};
+use harness::{Line, STDIN, STDOUT, find, first, is_all, put_fitting, rest};
 use hash::digest_of;
-use libc::{STDIN_FILENO, STDOUT_FILENO};
 use slot_row::SLOTS;
 use text::digit::digit_value;
 
@@ -44,7 +43,7 @@ const TABLE: usize = slot_row::SIZE;
 const BOOK: usize = 34816;
 
 fn print(bytes: &[u8]) {
-    io::write_all(STDOUT_FILENO, bytes);
+    io::write_all(STDOUT, bytes);
 }
 
 fn print_line(line: Line) {
@@ -471,7 +470,7 @@ fn run_all(text: &[u8], table: &mut [u8], book: &mut [u8]) {
 
 fn main() {
     let mut text = [0u8; INPUT];
-    let n = io::read_full(STDIN_FILENO, &mut text);
+    let n = io::read_full(STDIN, &mut text);
     let mut table = [0u8; TABLE];
     let mut book = [0u8; BOOK];
     run_all(first(&text, n), &mut table, &mut book);

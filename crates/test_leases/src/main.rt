@@ -22,9 +22,8 @@
 
 use base::Answer;
 use check::same;
-use harness::{Line, find, first, is_all, put_fitting, rest};
+use harness::{Line, STDIN, STDOUT, find, first, is_all, put_fitting, rest};
 use lease_calls::{end, lease};
-use libc::{STDIN_FILENO, STDOUT_FILENO};
 use name_text::put_text;
 use text::digit::digit_value;
 
@@ -42,7 +41,7 @@ const REVERSE: usize = reverse_row::SIZE;
 const REVERSE_SLOT: usize = REVERSE / reverse_row::SLOTS;
 
 fn print(bytes: &[u8]) {
-    io::write_all(STDOUT_FILENO, bytes);
+    io::write_all(STDOUT, bytes);
 }
 
 fn print_line(line: Line) {
@@ -390,7 +389,7 @@ fn run_all(text: &[u8], table: &mut [u8], reverse: &mut [u8]) {
 
 fn main() {
     let mut text = [0u8; INPUT];
-    let n = io::read_full(STDIN_FILENO, &mut text);
+    let n = io::read_full(STDIN, &mut text);
     let mut table = [0u8; TABLE];
     put_fitting(&mut table, 0, b"\x03\x01h\x00");
     put_fitting(&mut table, 256, b"\x01\xc0\x00\x02\x09");

@@ -11,13 +11,12 @@ ghost use Rattle.std.specs.Prelude.{◌≡◌, length};
 use base::Answer;
 use base::slice::put;
 use check::same;
-use harness::{Line, find, first, is_all, rest};
-use libc::{STDIN_FILENO, STDOUT_FILENO};
+use harness::{Line, STDIN, STDOUT, find, first, is_all, rest};
 use table_load::load;
 use table_write::write;
 
 fn print(bytes: &[u8]) {
-    io::write_all(STDOUT_FILENO, bytes);
+    io::write_all(STDOUT, bytes);
 }
 
 fn print_line(line: Line) {
@@ -183,7 +182,7 @@ fn refuse(table: &mut [u8])
 
 fn main() {
     let mut text = [0u8; INPUT];
-    let n = io::read_full(STDIN_FILENO, &mut text);
+    let n = io::read_full(STDIN, &mut text);
     run_all(first(&text, n));
     let mut table = [0u8; TABLE];
     fill(&mut table);

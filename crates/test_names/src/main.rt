@@ -6,14 +6,13 @@
 
 ghost use Rattle.std.specs.Prelude.{◌≤◌};
 
-use harness::{Line, find, first};
-use libc::STDOUT_FILENO;
+use harness::{Line, STDOUT, find, first};
 use name::wire::{is_proper, matches, put_canonical};
 use name_text::{from_text, put_text};
 
 fn print(line: Line) {
     let bytes = line.bytes;
-    io::write_all(STDOUT_FILENO, first(&bytes, line.len));
+    io::write_all(STDOUT, first(&bytes, line.len));
 }
 
 fn text(word: &[u8]) {

@@ -8,14 +8,13 @@
 
 use base::slice::put;
 use entry::Record;
-use harness::{Line, first, is_all, rest};
-use libc::STDOUT_FILENO;
+use harness::{Line, STDOUT, first, is_all, rest};
 use listing::{Found, Step};
 use reader::peek_at;
 
 fn print(line: Line) {
     let bytes = line.bytes;
-    io::write_all(STDOUT_FILENO, first(&bytes, line.len));
+    io::write_all(STDOUT, first(&bytes, line.len));
 }
 
 fn with_record(line: Line, owner: &[u8], len: usize, rtype: u8, rdata: &[u8]) -> Line {

@@ -10,15 +10,14 @@ ghost use Rattle.std.specs.Prelude.{◌<◌, length};
 
 use base::Answer;
 use dhcid::{Chosen, choose, put_dhcid};
-use harness::{Line, find, first, put_fitting, rest};
-use libc::{STDIN_FILENO, STDOUT_FILENO};
+use harness::{Line, STDIN, STDOUT, find, first, put_fitting, rest};
 use message::{Part, Request};
 use message4::read4;
 use message6::read6;
 use text::digit::digit_value;
 
 fn print(bytes: &[u8]) {
-    io::write_all(STDOUT_FILENO, bytes);
+    io::write_all(STDOUT, bytes);
 }
 
 fn print_line(line: Line) {
@@ -244,7 +243,7 @@ fn show_all(text: &[u8], room: &mut [u8]) {
 
 fn main() {
     let mut text = io::large_buffer();
-    let n = io::read_full(STDIN_FILENO, &mut text);
+    let n = io::read_full(STDIN, &mut text);
     let mut room = io::buffer();
     show_all(first(&text, n), &mut room);
 }

@@ -7,13 +7,12 @@
 use base::Answer;
 use check::same;
 use entry::Record;
-use harness::{Line, first, is_all, rest};
-use libc::STDOUT_FILENO;
+use harness::{Line, STDOUT, first, is_all, rest};
 use row::read_four;
 
 fn print(line: Line) {
     let bytes = line.bytes;
-    io::write_all(STDOUT_FILENO, first(&bytes, line.len));
+    io::write_all(STDOUT, first(&bytes, line.len));
 }
 
 // What a place holds before the call: no record has this type.

@@ -6,13 +6,12 @@
 
 ghost use Rattle.std.specs.Prelude.{◌≤◌};
 
-use harness::{Line, first};
+use harness::{Line, STDOUT, first};
 use hash::{Sha256, digest_of};
-use libc::STDOUT_FILENO;
 
 fn print(line: Line) {
     let bytes = line.bytes;
-    io::write_all(STDOUT_FILENO, first(&bytes, line.len));
+    io::write_all(STDOUT, first(&bytes, line.len));
 }
 
 fn show(label: &[u8], digest: [u8; 32]) {

@@ -8,12 +8,11 @@
 
 use address::{a_length, put_a, put_aaaa, read_a, read_aaaa};
 use dhcid_text::{DhcidWords, ReadDhcid, put_base64};
-use harness::{Line, find, first};
-use libc::STDOUT_FILENO;
+use harness::{Line, STDOUT, find, first};
 
 fn print(line: Line) {
     let bytes = line.bytes;
-    io::write_all(STDOUT_FILENO, first(&bytes, line.len));
+    io::write_all(STDOUT, first(&bytes, line.len));
 }
 
 // What was read, and the text that is written for it.

@@ -13,13 +13,12 @@ ghost use Rattle.std.specs.Prelude.{◌≡◌, length};
 use base::Answer;
 use base::slice::put;
 use check::same;
-use harness::{Line, find, first, is_all, put_fitting, rest};
-use libc::{STDIN_FILENO, STDOUT_FILENO};
+use harness::{Line, STDIN, STDOUT, find, first, is_all, put_fitting, rest};
 use slot_row::SIZE;
 use text::digit::digit_value;
 
 fn print(bytes: &[u8]) {
-    io::write_all(STDOUT_FILENO, bytes);
+    io::write_all(STDOUT, bytes);
 }
 
 fn print_line(line: Line) {
@@ -252,7 +251,7 @@ fn keep_by_hand(table: &mut [u8])
 
 fn main() {
     let mut text = io::buffer();
-    let n = io::read_full(STDIN_FILENO, &mut text);
+    let n = io::read_full(STDIN, &mut text);
     let mut table = [0u8; 19968];
     keep_by_hand(&mut table);
     run_all(first(&text, n), &mut table);

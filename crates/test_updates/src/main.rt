@@ -15,8 +15,7 @@
 #![tactic(auto)]
 
 use base::Answer;
-use harness::{Line, find, first, is_all, put_fitting, rest};
-use libc::{STDIN_FILENO, STDOUT_FILENO};
+use harness::{Line, STDIN, STDOUT, find, first, is_all, put_fitting, rest};
 use text::digit::digit_value;
 use update::Kind;
 use update::call::{write, write_last};
@@ -35,12 +34,12 @@ const OLD: u8 = 170;
 const WORD: usize = 300;
 
 fn print(bytes: &[u8]) {
-    io::write_all(STDOUT_FILENO, bytes);
+    io::write_all(STDOUT, bytes);
 }
 
 fn print_number(before: &[u8], number: u32) {
     print(before);
-    io::print_decimal(STDOUT_FILENO, number as u64);
+    io::print_decimal(STDOUT, number as u64);
 }
 
 // The byte at an index, 0 behind the end.
@@ -213,7 +212,7 @@ fn run_all(text: &[u8], area: &mut [u8]) {
 
 fn main() {
     let mut text = [0u8; INPUT];
-    let n = io::read_full(STDIN_FILENO, &mut text);
+    let n = io::read_full(STDIN, &mut text);
     let mut area = [OLD; AREA];
     run_all(first(&text, n), &mut area);
 }

@@ -24,11 +24,10 @@ loop-next-smaller c =
     omega (arith, next_on c.args.text.now c.loop-next.next c.loop-next.out c.loop-next.used _ c.put_next-batch.result c.put_next-batch.ensures (omega arith))
 
 pub loop-next-preserved : goal.loop-next-preserved
-loop-next-preserved c =
-    (
-      search rules,
-      so_far_more c.args.text.now c.args.at c.args.out.now c.loop-next.out _ c.loop-next.invariant.1 _ c.put_next-batch.result (omega arith) c.loop-next.invariant.0 c.put_next-batch.ensures,
-    )
+loop-next-preserved c = (
+  search rules,
+  so_far_more c.args.text.now c.args.at c.args.out.now c.loop-next.out _ c.loop-next.invariant.1 _ c.put_next-batch.result (omega arith) c.loop-next.invariant.0 c.put_next-batch.ensures,
+)
 
 pub returns : goal.returns
 returns c =
