@@ -9,4 +9,4 @@ pub returns : goal.returns
 returns c =
     let h = c.decimal-k.ensures in
     let small : c.args.n < 10 ^ 20 = search rules in
-    c.text.ensures ∙ ap (followed _) (h.1.1 ∙ spelled _ _ h.1.0 small)
+    c.text.ensures ∙ ap (followed _) (h.digits ∙ spelled _ _ h.len small)
