@@ -8,18 +8,8 @@ use lib.Seq.{take_all}
 use borrow.Author.Tests.{eqb-true, eqb-false}
 use Rattle.base.proofs.Lists.{take_more}
 use Rattle.octets.proofs.SameLaws.{or_none_lem}
+use Rattle.octets.proofs.are_zeros_at_once.Invariants.{zeros}
 use Rattle.octets.proofs.are_zeros_at_once.Goals as goal
-
--- so many zeros as there are bytes
-abbrev zeros : List ℕ → List ℕ
-zeros l = replicate (length l) 0
-
--- the bits of the bytes passed are none exactly if they are all 0
-pub record Passed (b : List ℕ) (bits i : ℕ) : Type 0 where
-  pub low : i ≤ length b
-  pub forth : bits ≡ 0 → take i b ≡ take i (zeros b)
-  pub back : b ≡ zeros b → bits ≡ 0
-
 
 pub loop-i-init : goal.loop-i-init
 loop-i-init c = record { low = omega arith; forth = λ z. refl; back = λ e. refl }

@@ -1,14 +1,12 @@
 use Prim.Native.Nat.{ℕ, ◌+◌, ◌-◌, ◌≤◌, ◌<◌}
 use mathlib.Core.Path.{◌≡◌, refl, sym, ap, ◌∙◌}
-use mathlib.Core.Logic.{⊎_elim}
 use native.Mathlib.Omega.{arith}
-use borrow.Author.Rules.{rules}
-use borrow.Author.Tests.{not-true, not-false}
 use lib.ListN.{length, drop, get_or-eq_default}
 use Rattle.base.proofs.Tests.{no_by}
 use Rattle.name.specs.ProperTest.{accepts}
 use Rattle.name.proofs.WireLaws.{proper_first, proper_short, decided, at_zero, at_long_label, at_label, at_byte, at_other_byte, at_end_of_bytes}
 use Rattle.name.proofs.wire.is_proper.Goals as goal
+use Rattle.name.proofs.wire.is_proper.Goals.{then-left-eq0+else-b-eq0+else-b-gt-LONGEST_LABEL, else-left-eq0+else-not-is_label_byte}
 
 pub returns-then-name-gt-LONGEST : goal.returns-then-name-gt-LONGEST
 returns-then-name-gt-LONGEST c = no_by (λ p. omega (arith, proper_short _ p))
@@ -53,14 +51,14 @@ loop-i-preserved c =
     let more : l.i < length n = omega arith in (
       omega arith,
       l.invariant.1
-          ∙ ⊎_elim
-          (λ w.
-          ap (λ (k : ℕ). accepts k (drop l.i n)) w.0.taken ∙ at_label n l.i more w.1.left w.2.left
-          ∙ ap (λ (k : ℕ). accepts k (drop (l.i + 1) n)) (sym w.3))
-          (λ w.
-          at_byte n l.i more l.left w.0.left (sym w.1.ensures ∙ not-false _ w.2.left)
-          ∙ ap (λ (k : ℕ). accepts k (drop (l.i + 1) n)) (sym w.3))
-          c.if-left-eq0.branch,
+          ∙ elim c.if-left-eq0.branch [
+            then-left-eq0+else-b-eq0+else-b-gt-LONGEST_LABEL w ↦
+                ap (λ (k : ℕ). accepts k (drop l.i n)) w.if-left-eq0.true ∙ at_label n l.i more w.if-b-eq0.false w.if-b-gt-LONGEST_LABEL.false
+                ∙ ap (λ (k : ℕ). accepts k (drop (l.i + 1) n)) (sym w.left-is)
+          | else-left-eq0+else-not-is_label_byte w ↦
+                at_byte n l.i more l.left w.if-left-eq0.false (sym w.is_label_byte.ensures ∙ w.if-not-is_label_byte.false)
+                ∙ ap (λ (k : ℕ). accepts k (drop (l.i + 1) n)) (sym w.left-is)
+          ],
     )
 
 pub returns : goal.returns

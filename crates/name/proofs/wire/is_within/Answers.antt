@@ -1,4 +1,5 @@
-use Prim.Native.Nat.{◌-◌, ◌≤◌}
+use mathlib.Core.List.{List}
+use Prim.Native.Nat.{ℕ, ◌-◌, ◌<◌, ◌≤◌}
 use native.Mathlib.Omega.{arith}
 use borrow.Author.Rules.{rules}
 use lib.ListN.{length}
@@ -18,30 +19,28 @@ pub overflow_sub-name : goal.overflow_sub-name
 overflow_sub-name c = c.loop-at.invariant.0.low
 
 -- the label that a turn passes
-turn : (c : goal.After-shared_slice_known-in-loop-at-1) → let a = c.args in Turn a.name.now (canonical a.zone.now) c.loop-at.at
-turn c =
-    let a = c.args in
-    let l = c.loop-at in
-    let size = length_canonical a.zone.now in
-    walked_more a.name.now (canonical a.zone.now) l.at (omega (arith, size, l.invariant.1)) l.invariant.0 (omega (arith, size, c.loop-at-test.true))
+turn : (n z : List ℕ) (at : ℕ) → Walked n (canonical z) at × (1 ≤ length z) × (length n ≤ 255) → length z < length n - at → Turn n (canonical z) at
+turn n z at walked more =
+    let size = length_canonical z in
+    walked_more n (canonical z) at (omega (arith, size, walked.1)) walked.0 (omega (arith, size, more))
 
 pub bounds-name-at : goal.bounds-name-at
-bounds-name-at c = omega (arith, (turn c).short)
+bounds-name-at c = omega (arith, (turn c.args.name.now c.args.zone.now c.loop-at.at c.loop-at.invariant c.loop-at-test.true).short)
 
 pub overflow_cast-at : goal.overflow_cast-at
-overflow_cast-at c = omega (arith, (turn c).short, c.loop-at.invariant.2)
+overflow_cast-at c = omega (arith, (turn c.args.name.now c.args.zone.now c.loop-at.at c.loop-at.invariant c.loop-at-test.true).short, c.loop-at.invariant.2)
 
 pub overflow_add-at : goal.overflow_add-at
-overflow_add-at c = omega (arith, (turn c).short, c.loop-at.invariant.2)
+overflow_add-at c = omega (arith, (turn c.args.name.now c.args.zone.now c.loop-at.at c.loop-at.invariant c.loop-at-test.true).short, c.loop-at.invariant.2)
 
 pub overflow_add-at-in-loop-at : goal.overflow_add-at-in-loop-at
-overflow_add-at-in-loop-at c = omega (arith, (turn c).short, c.loop-at.invariant.2)
+overflow_add-at-in-loop-at c = omega (arith, (turn c.args.name.now c.args.zone.now c.loop-at.at c.loop-at.invariant c.loop-at-test.true).short, c.loop-at.invariant.2)
 
 pub loop-at-smaller : goal.loop-at-smaller
-loop-at-smaller c = omega (arith, (turn c).short)
+loop-at-smaller c = omega (arith, (turn c.args.name.now c.args.zone.now c.loop-at.at c.loop-at.invariant c.loop-at-test.true).short)
 
 pub loop-at-preserved : goal.loop-at-preserved
-loop-at-preserved c = let l = c.loop-at in ((turn c).next, l.invariant.1, l.invariant.2)
+loop-at-preserved c = let l = c.loop-at in ((turn c.args.name.now c.args.zone.now c.loop-at.at c.loop-at.invariant c.loop-at-test.true).next, l.invariant.1, l.invariant.2)
 
 pub slice_bounds-matches-count : goal.slice_bounds-matches-count
 slice_bounds-matches-count c = c.loop-at.invariant.0.low
