@@ -9,6 +9,7 @@ use Rattle.slots.specs.Form.{TableEntry, WellFormed, slot_bytes}
 use Rattle.slots.specs.Promise.{holding, is_address}
 use Rattle.slots.specs.declared.Holding.TheVariants.{ByThis}
 use Rattle.slots.proofs.EffectLaws.{left_in}
+use Rattle.slot.proofs.removal.Goals.{After-has}
 use Rattle.slot.proofs.removal.Goals as goal
 
 pub returns-then-not-has_address : goal.returns-then-not-has_address
@@ -21,7 +22,7 @@ pub returns-in-ByHand : goal.returns-in-ByHand
 returns-in-ByHand c = λ e w form. rw (sym (c.holding-holder.ensures e w form) ∙ c.in-ByHand.is) refl
 
 -- once it is asked for the other family's address: the client holds the name with this one, and whether another is left is what was answered
-held : (h : goal.After-has)
+held : (h : After-has)
     → let a = h.args in
     (e : TableEntry) → WellFormed e → a.slot.now ≡ slot_bytes e
     → (holding eq_bytes e.holder a.dhcid.now ≡ ByThis) × (is_address (address_of a.family e) a.address.now ≡ true) × (has_address (deleted a.family e) ≡ h.has.result)
@@ -36,10 +37,10 @@ held h = λ e w form.
     )
 
 pub returns-then-has : goal.returns-then-has
-returns-then-has c = λ e w form. let k = held c.before e w form in rw (k.0, k.1, k.2 ∙ c.if-has.true) refl
+returns-then-has c = λ e w form. let k = held (goal.at.returns-then-has c).After-has e w form in rw (k.0, k.1, k.2 ∙ c.if-has.true) refl
 
 pub returns-else-has : goal.returns-else-has
-returns-else-has c = λ e w form. let k = held c.before e w form in rw (k.0, k.1, k.2 ∙ c.if-has.false) refl
+returns-else-has c = λ e w form. let k = held (goal.at.returns-else-has c).After-has e w form in rw (k.0, k.1, k.2 ∙ c.if-has.false) refl
 
 pub returns-in-ByAnother : goal.returns-in-ByAnother
 returns-in-ByAnother c = λ e w form. rw (sym (c.holding-holder.ensures e w form) ∙ c.in-ByAnother.is) refl
