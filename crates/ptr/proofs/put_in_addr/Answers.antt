@@ -12,6 +12,7 @@ use Rattle.text.proofs.DigitLaws.{length_decimal, digits_first}
 use Rattle.ptr.specs.Ptr.{ptr_labels, ptr_name}
 use Rattle.ptr.proofs.LabelLaws.{lasts, lasts_octet}
 use Rattle.ptr.proofs.PutLaws.{Begun, begun_none, room, begun_more, suffix_room, begun_all}
+use Rattle.ptr.proofs.put_in_addr.Goals.{After-decimal-d}
 use Rattle.ptr.proofs.put_in_addr.Goals as goal
 
 pub loop-i-init : goal.loop-i-init
@@ -22,7 +23,7 @@ pub bounds-address-i : goal.bounds-address-i
 bounds-address-i c = omega (arith, c.loop-i.invariant.within)
 
 -- what `decimal` answered of a byte: its digits, of which there are at most three
-digits : (c : goal.After-decimal-d)
+digits : (c : After-decimal-d)
     → let d = c.decimal-d.result in
     let l = c.loop-i in
     let b = get_or c.args.address.now (l.i - 1) 0 in
@@ -35,13 +36,13 @@ digits c =
 pub slice_bounds-digits-end : goal.slice_bounds-digits-end
 slice_bounds-digits-end c =
     let three : length c.decimal-d.result.digits ≡ 3 = search rules in
-    omega (arith, (digits c.before.before).2)
+    omega (arith, (digits (goal.at.slice_bounds-digits-end c).After-decimal-d).2)
 
 pub slice_bounds-put_label-end : goal.slice_bounds-put_label-end
-slice_bounds-put_label-end c = sym (digits c.before.before.before).1
+slice_bounds-put_label-end c = sym (digits (goal.at.slice_bounds-put_label-end c).After-decimal-d).1
 
 -- they are the byte's label behind their number
-label : (c : goal.After-decimal-d)
+label : (c : After-decimal-d)
     → let q = take c.decimal-d.result.len c.decimal-d.result.digits in
     let b = get_or c.args.address.now (c.loop-i.i - 1) 0 in
     length q ∷ q ≡ lasts V4 (b ∷ [])
@@ -50,24 +51,24 @@ label c =
     ap (λ q. length q ∷ q) (digits c).0 ∙ sym (lasts_octet b)
 
 -- and there is room for it
-fits : (c : goal.After-decimal-d) → let l = c.loop-i in l.end + (1 + c.decimal-d.result.len) ≤ length l.out
+fits : (c : After-decimal-d) → let l = c.loop-i in l.end + (1 + c.decimal-d.result.len) ≤ length l.out
 fits c =
     let l = c.loop-i in
     omega (arith, room V4 c.args.out.now c.args.address.now c.requires l.out l.end l.i l.invariant (omega arith) _ (label c), (digits c).1)
 
 pub put_label-requires : goal.put_label-requires
-put_label-requires c = record { label_len_bound = omega (arith, (digits c.before.before.before).1, (digits c.before.before.before).2); label_in_bounds = omega (arith, (digits c.before.before.before).1, fits c.before.before.before) }
+put_label-requires c = record { label_len_bound = omega (arith, (digits (goal.at.put_label-requires c).After-decimal-d).1, (digits (goal.at.put_label-requires c).After-decimal-d).2); label_in_bounds = omega (arith, (digits (goal.at.put_label-requires c).After-decimal-d).1, fits (goal.at.put_label-requires c).After-decimal-d) }
 
 pub overflow_add-end : goal.overflow_add-end
-overflow_add-end c = omega (arith, (digits c.before.before.before.before.before.before).2)
+overflow_add-end c = omega (arith, (digits (goal.at.overflow_add-end c).After-decimal-d).2)
 
 pub overflow_add-end-in-loop-i : goal.overflow_add-end-in-loop-i
-overflow_add-end-in-loop-i c = omega (arith, fits c.before.before.before.before.before.before)
+overflow_add-end-in-loop-i c = omega (arith, fits (goal.at.overflow_add-end-in-loop-i c).After-decimal-d)
 
 pub loop-i-preserved : goal.loop-i-preserved
 loop-i-preserved c =
     let l = c.loop-i in
-    begun_more V4 c.args.out.now c.args.address.now c.requires l.out l.end l.i l.invariant (omega arith) _ (label c.before.before.before.before.before.before) _ _ (omega (arith, (digits c.before.before.before.before.before.before).1)) c.put_label.ensures
+    begun_more V4 c.args.out.now c.args.address.now c.requires l.out l.end l.i l.invariant (omega arith) _ (label (goal.at.loop-i-preserved c).After-decimal-d) _ _ (omega (arith, (digits (goal.at.loop-i-preserved c).After-decimal-d).1)) c.put_label.ensures
 
 pub put-requires : goal.put-requires
 unfolding ptr_name ptr_labels wire ascii

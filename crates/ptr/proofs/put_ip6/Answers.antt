@@ -9,6 +9,7 @@ use Rattle.slots.specs.declared.Family.TheVariants.{V6}
 use Rattle.ptr.specs.Ptr.{nibbles, ptr_labels, ptr_name}
 use Rattle.ptr.proofs.LabelLaws.{lasts_nibbles}
 use Rattle.ptr.proofs.PutLaws.{Begun, begun_none, room, begun_more, suffix_room, begun_all}
+use Rattle.ptr.proofs.put_ip6.Goals.{After-shared_slice_known-in-loop-i-1}
 use Rattle.ptr.proofs.put_ip6.Goals as goal
 
 pub loop-i-init : goal.loop-i-init
@@ -19,7 +20,7 @@ pub bounds-address-i : goal.bounds-address-i
 bounds-address-i c = omega (arith, c.loop-i.invariant.within)
 
 -- there is room for the two labels of a byte
-fits : (c : goal.After-shared_slice_known-in-loop-i-1) → let l = c.loop-i in l.end + 4 ≤ length l.out
+fits : (c : After-shared_slice_known-in-loop-i-1) → let l = c.loop-i in l.end + 4 ≤ length l.out
 fits c =
     let l = c.loop-i in
     let out = c.args.out.now in
@@ -30,7 +31,7 @@ pub put_nibbles-requires : goal.put_nibbles-requires
 put_nibbles-requires c = fits c
 
 pub overflow_add-end : goal.overflow_add-end
-overflow_add-end c = omega (arith, fits c.before.before.before)
+overflow_add-end c = omega (arith, fits (goal.at.overflow_add-end c).After-shared_slice_known-in-loop-i-1)
 
 pub loop-i-preserved : goal.loop-i-preserved
 loop-i-preserved c =

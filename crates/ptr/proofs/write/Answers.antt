@@ -11,6 +11,7 @@ use Rattle.slots.specs.Entry.{family_of, address_size}
 use Rattle.slots.specs.declared.Family.{Family}
 use Rattle.ptr.specs.Ptr.{ptr_name, PtrWritten}
 use Rattle.ptr.proofs.NameLaws.{short}
+use Rattle.ptr.proofs.write.Goals.{After-address_size, After-name_length-len}
 use Rattle.ptr.proofs.write.Goals as goal
 
 pub returns-then-not-is_family : goal.returns-then-not-is_family
@@ -18,7 +19,7 @@ returns-then-not-is_family c =
     PtrWritten.faulty (inl (c.is_family.ensures.if_false c.if-not-is_family.true, refl)) c.refused.ensures refl
 
 -- behind the first test: the family is known, and this is the size of its addresses
-known : (c : goal.After-address_size)
+known : (c : After-address_size)
     → let n = c.args.family in
     KnownFamily n × (c.address_size.result ≡ address_size (family_of n))
 known c =
@@ -29,35 +30,35 @@ known c =
 
 pub returns-then-address-address_size : goal.returns-then-address-address_size
 returns-then-address-address_size c =
-    let k = known c.before.before in
+    let k = known (goal.at.returns-then-address-address_size c).After-address_size in
     PtrWritten.faulty (inr (k.0, inl (λ e. c.if-address-address_size.true (e ∙ sym k.1), refl))) c.refused-then-address-address_size.ensures refl
 
 -- behind the second: the address has it, and this is the length of its name
-sized : (c : goal.After-name_length-len)
+sized : (c : After-name_length-len)
     → let a = c.args in
     let f = family_of a.family in
     let x = a.address.now in
     (length x ≡ address_size f) × (c.name_length-len.result ≡ length (ptr_name f x))
 sized c =
     let x = c.args.address.now in (
-      c.if-address-address_size.false ∙ (known c.before.before).1,
+      c.if-address-address_size.false ∙ (known (goal.at.After-name_length-len c).After-address_size).1,
       c.name_length-len.ensures ∙ ap (λ (f : Family). length (ptr_name f x)) c.family_of-version.ensures,
     )
 
 pub returns-then-out-len : goal.returns-then-out-len
 returns-then-out-len c =
-    let s = sized c.before.before in
-    PtrWritten.faulty (inr ((known c.before.before.before.before).0, inr (s.0, inl (λ room. omega arith, refl)))) c.refused-then-out-len.ensures refl
+    let s = sized (goal.at.returns-then-out-len c).After-name_length-len in
+    PtrWritten.faulty (inr ((known (goal.at.returns-then-out-len c).After-address_size).0, inr (s.0, inl (λ room. omega arith, refl)))) c.refused-then-out-len.ensures refl
 
 pub overflow_cast-result : goal.overflow_cast-result
 overflow_cast-result c =
-    let s = sized c.before.before.before.before.before in
+    let s = sized (goal.at.overflow_cast-result c).After-name_length-len in
     let a = c.args in
     omega (arith, s.1, short (family_of a.family) a.address.now s.0)
 
 pub returns : goal.returns
 returns c =
     let a = c.args in
-    let s = sized c.before.before.before.before.before in
-    PtrWritten.written ((known c.before.before.before.before.before.before.before).0, (s.0, (omega (arith, s.1), tt))) (ap Accepted s.1)
+    let s = sized (goal.at.returns c).After-name_length-len in
+    PtrWritten.written ((known (goal.at.returns c).After-address_size).0, (s.0, (omega (arith, s.1), tt))) (ap Accepted s.1)
     (c.put_name.ensures ∙ ap (λ (f : Family). overlay a.out.now 0 (ptr_name f a.address.now)) c.family_of-version.ensures)
