@@ -18,4 +18,4 @@ loop-t-preserved c = (omega arith, omega arith, c.eight_rounds-x.ensures _ c.loo
 pub returns : goal.returns
 returns c =
     let e : c.loop-t.t ≡ 64 = omega arith in
-    c.loop-t.invariant.2 ∙ ap (λ (n : ℕ). rounds n c.args.t1 c.args.h) e
+    c.loop-t.invariant.2 ∙ ap (λ (n : ℕ). rounds n c.args.w c.args.h) e

@@ -8,7 +8,7 @@ use Rattle.sha256_block.specs.Block.{◌⊞◌, sums}
 use Rattle.sha256_block.proofs.sums.Given as goal
 
 abbrev pub invariant-loop-i : goal.invariant-loop-i
-invariant-loop-i l = Filled (λ l.i. get_or l.v l.i 0 ⊞ get_or l.h l.i 0) 8 l.s l.i
+invariant-loop-i l = Filled (λ k. get_or l.v k 0 ⊞ get_or l.h k 0) 8 l.s l.i
 
 abbrev pub decreases-loop-i : goal.decreases-loop-i
 decreases-loop-i l = 8 - l.i
