@@ -21,7 +21,7 @@ pub overflow_add-sextets : goal.overflow_add-sextets
 overflow_add-sextets c = ⊎_elim (λ e. omega arith) (λ e. omega arith) c.read_quanta-passed.ensures.0.fits
 
 pub loop-i-init : goal.loop-i-init
-loop-i-init c = (c.read_quanta-passed.ensures.0.within, c.read_quanta-passed.auto.1.0 ∙ search rules, λ cs t. t)
+loop-i-init c = (c.read_quanta-passed.ensures.0.within, c.read_quanta-passed.auto.bytes ∙ search rules, λ cs t. t)
 
 pub base64_character-next-requires : goal.base64_character-next-requires
 unfolding tabulate value64
@@ -33,7 +33,7 @@ loop-i-preserved c =
     let l = c.loop-i in
     let lt : l.i < length w = omega arith in (
       omega arith,
-      c.base64_character-next.auto.1.0 ∙ l.invariant.1,
+      c.base64_character-next.auto.bytes ∙ l.invariant.1,
       λ cs t. one_character_more cs w l.i lt (c.base64_character-next.ensures (cs ++ take l.i w) (l.invariant.2 cs t)),
     )
 
