@@ -61,7 +61,7 @@ word_run : (d : Depth) (b : ℕ) (w rest : List ℕ) → Every (λ b. is_word_by
     → scan plain d (b ∷ w ++ rest) ≡ preceded ((b ∷ w) ∷ []) (scan plain d rest)
 word_run d b [] rest (Every.more hb h) s = word_byte_lem d b rest (kind_of b) refl hb ∙ rw s
 word_run d b (y ∷ w) rest (Every.more hb (Every.more hy h)) s =
-    word_byte d b (y ∷ w ++ rest) (kind_of b) refl hb ∙ rw (word_run d y w rest (Every.more hy h) s, hy)
+    word_byte_lem d b (y ∷ w ++ rest) (kind_of b) refl hb ∙ rw (word_run d y w rest (Every.more hy h) s, hy)
 
 pub piece_scan : {d d' : Depth} {t rest : List ℕ} {ws : List (List ℕ)} → Piece d t ws d' rest → scan plain d t ≡ preceded ws (scan plain d' rest)
 piece_scan (a_blank {b = b} {rest} k) = byte_scan plain _ b rest _ k
@@ -84,8 +84,8 @@ one_words w w' = ap (λ (l : Laid). l.words) (sym (words_scan w) ∙ words_scan 
 pub fault_scan : {d : Depth} {t : List ℕ} → ShapeFault d t → (scan plain d t).ending ≡ at_fault
 unfolding scan
 fault_scan ShapeFault.never_closed = refl
-fault_scan (ShapeFault.nested {b} {t} k) = ap (λ (l : Laid). l.ending) (byte_scan plain _ b t _ k)
-fault_scan (ShapeFault.stray {b} {t} k) = ap (λ (l : Laid). l.ending) (byte_scan plain _ b t _ k)
+fault_scan (ShapeFault.nested {b} {t} k) = ap (λ (l : Laid). l.ending) (byte_scan plain inside b t _ k)
+fault_scan (ShapeFault.stray {b} {t} k) = ap (λ (l : Laid). l.ending) (byte_scan plain outside b t _ k)
 fault_scan (ShapeFault.not_allowed {b = b} {t} k) = ap (λ (l : Laid). l.ending) (byte_scan plain _ b t _ k)
 fault_scan (ShapeFault.later p f) = ap (λ (l : Laid). l.ending) (piece_scan p) ∙ fault_scan f
 

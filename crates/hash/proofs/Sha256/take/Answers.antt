@@ -7,7 +7,7 @@ pub put-requires : goal.put-requires
 put-requires c = let e : length c.args.self.block ≡ 64 = search rules in omega arith
 
 pub returns-then-bytes-room : goal.returns-then-bytes-room
-returns-then-bytes-room c = takes_short _ (search rules) _ _ _ c.put.ensures c.wrapping_add_u64-total.ensures (omega arith)
+returns-then-bytes-room c = takes_short _ (search rules) _ _ _ c.put.ensures c.wrapping_add_u64-total.ensures.value (omega arith)
 
 pub slice_bounds-put-end-3 : goal.slice_bounds-put-end-3
 slice_bounds-put-end-3 c = simp length-take (omega arith)
@@ -26,7 +26,7 @@ returns c =
     let done : ℕ = length z / 64 * 64 in
     let p : List ℕ = take (length z - done) (drop done z) in
     takes_full a.self (search rules) x y z p _ _ _ _ _
-    c.put-2.ensures c.compress.ensures c.absorb-hashed.ensures c.put-3.ensures c.wrapping_add_u64-total.ensures
+    c.put-2.ensures c.compress.ensures c.absorb-hashed.ensures c.put-3.ensures c.wrapping_add_u64-total.ensures.value
     (ap (λ (l : List ℕ). y ++ l) (take_all (length x - room) (drop room x) (simp length-drop (omega arith))) ∙ take-append-drop room x)
     (take_all (length z - done) (drop done z) (simp length-drop (omega arith)))
     (simp length-take (omega arith))
