@@ -1,5 +1,5 @@
-// The library's calls for C, one function each and thin: include/vichrelka.h says how C declares them, and what each answers. A slice is a pointer
-// and a length; what C owes for it is in docs/TRUST.md.
+// The library's calls for C, one function each and thin: include/vichrelka.h says how C declares them, and what each answers. The crate gateway_c exports them. A slice
+// is a pointer and a length; what C owes for it is in docs/TRUST.md.
 #![tactic(auto)]
 
 ghost use Rattle.base.specs.Answer.{Tells};
@@ -22,8 +22,7 @@ use base::Answer;
 use update::Kind;
 
 // uint64_t vichrelka_name(uint32_t family, uint32_t setting, const uint8_t *message, size_t message_len, const uint8_t *site, size_t site_len)
-#[unsafe(no_mangle)]
-pub extern "C" fn vichrelka_name(family: u32, setting: u32, message: &[u8], site: &[u8]) -> u64
+pub fn vichrelka_name(family: u32, setting: u32, message: &[u8], site: &[u8]) -> u64
     ensures { Tells result (λ a. Names family setting message.now site.now a) }
 {
     dhcid::locate(family, setting, message, site).for_c()
@@ -31,8 +30,7 @@ pub extern "C" fn vichrelka_name(family: u32, setting: u32, message: &[u8], site
 
 // uint64_t vichrelka_dhcid(uint32_t family, uint32_t setting, const uint8_t *message, size_t message_len, const uint8_t *site, size_t site_len,
 //                          uint8_t *out, size_t out_len)
-#[unsafe(no_mangle)]
-pub extern "C" fn vichrelka_dhcid<'a>(
+pub fn vichrelka_dhcid<'a>(
     family: u32,
     setting: u32,
     message: &'a [u8],
@@ -45,24 +43,21 @@ pub extern "C" fn vichrelka_dhcid<'a>(
 }
 
 // uint64_t vichrelka_name_from_text(const uint8_t *text, size_t text_len, uint8_t *out, size_t out_len)
-#[unsafe(no_mangle)]
-pub extern "C" fn vichrelka_name_from_text(text: &[u8], out: &mut [u8]) -> u64
+pub fn vichrelka_name_from_text(text: &[u8], out: &mut [u8]) -> u64
     ensures { Tells result (λ a. ReadsText text.now out.old a out.new) }
 {
     name_text::read(text, out).for_c()
 }
 
 // uint64_t vichrelka_name_to_text(const uint8_t *name, size_t name_len, uint8_t *out, size_t out_len)
-#[unsafe(no_mangle)]
-pub extern "C" fn vichrelka_name_to_text(name: &[u8], out: &mut [u8]) -> u64
+pub fn vichrelka_name_to_text(name: &[u8], out: &mut [u8]) -> u64
     ensures { Tells result (λ a. WritesText name.now out.old a out.new) }
 {
     name_text::write(name, out).for_c()
 }
 
 // uint64_t vichrelka_listing_check(const uint8_t *text, size_t text_len)
-#[unsafe(no_mangle)]
-pub extern "C" fn vichrelka_listing_check(text: &[u8]) -> u64
+pub fn vichrelka_listing_check(text: &[u8]) -> u64
     ensures { Tells result (λ a. Checks text.now a) }
 {
     listing::check(text).for_c()
@@ -70,8 +65,7 @@ pub extern "C" fn vichrelka_listing_check(text: &[u8]) -> u64
 
 // uint64_t vichrelka_table_add(uint8_t *table, size_t table_len, const uint8_t *name, size_t name_len, const uint8_t *dhcid, size_t dhcid_len,
 //                              uint32_t family, const uint8_t *address, size_t address_len, uint32_t policy)
-#[unsafe(no_mangle)]
-pub extern "C" fn vichrelka_table_add(
+pub fn vichrelka_table_add(
     table: &mut [u8],
     name: &[u8],
     dhcid: &[u8],
@@ -86,8 +80,7 @@ pub extern "C" fn vichrelka_table_add(
 
 // uint64_t vichrelka_table_remove(uint8_t *table, size_t table_len, const uint8_t *name, size_t name_len, const uint8_t *dhcid, size_t dhcid_len,
 //                                 uint32_t family, const uint8_t *address, size_t address_len)
-#[unsafe(no_mangle)]
-pub extern "C" fn vichrelka_table_remove(
+pub fn vichrelka_table_remove(
     table: &mut [u8],
     name: &[u8],
     dhcid: &[u8],
@@ -100,40 +93,35 @@ pub extern "C" fn vichrelka_table_remove(
 }
 
 // uint64_t vichrelka_table_clear(uint8_t *table, size_t table_len, const uint8_t *name, size_t name_len)
-#[unsafe(no_mangle)]
-pub extern "C" fn vichrelka_table_clear(table: &mut [u8], name: &[u8]) -> u64
+pub fn vichrelka_table_clear(table: &mut [u8], name: &[u8]) -> u64
     ensures { Tells result (λ a. Clears most_names table.old name.now a table.new) }
 {
     table::clear(table, name).for_c()
 }
 
 // uint64_t vichrelka_table_find(const uint8_t *table, size_t table_len, const uint8_t *name, size_t name_len)
-#[unsafe(no_mangle)]
-pub extern "C" fn vichrelka_table_find(table: &[u8], name: &[u8]) -> u64
+pub fn vichrelka_table_find(table: &[u8], name: &[u8]) -> u64
     ensures { Tells result (λ a. Finds most_names table.now name.now a) }
 {
     table::find(table, name).for_c()
 }
 
 // uint64_t vichrelka_table_count(const uint8_t *table, size_t table_len)
-#[unsafe(no_mangle)]
-pub extern "C" fn vichrelka_table_count(table: &[u8]) -> u64
+pub fn vichrelka_table_count(table: &[u8]) -> u64
     ensures { Tells result (λ a. Counts most_names table.now a) }
 {
     table::count(table).for_c()
 }
 
 // uint64_t vichrelka_table_write(const uint8_t *table, size_t table_len, uint8_t *out, size_t out_len)
-#[unsafe(no_mangle)]
-pub extern "C" fn vichrelka_table_write(table: &[u8], out: &mut [u8]) -> u64
+pub fn vichrelka_table_write(table: &[u8], out: &mut [u8]) -> u64
     ensures { Tells result (λ a. Writes most_names table.now out.old a out.new) }
 {
     table_write::write(table, out).for_c()
 }
 
 // uint64_t vichrelka_table_load(uint8_t *table, size_t table_len, const uint8_t *text, size_t text_len)
-#[unsafe(no_mangle)]
-pub extern "C" fn vichrelka_table_load(table: &mut [u8], text: &[u8]) -> u64
+pub fn vichrelka_table_load(table: &mut [u8], text: &[u8]) -> u64
     ensures { Tells result (λ a. Loads limit most_names text.now table.old a table.new) }
 {
     table_load::load(table, text).for_c()
@@ -141,45 +129,35 @@ pub extern "C" fn vichrelka_table_load(table: &mut [u8], text: &[u8]) -> u64
 
 // uint64_t vichrelka_book_block(const uint8_t *table, size_t table_len, const uint8_t *name, size_t name_len, uint32_t number,
 //                               uint8_t *out, size_t out_len)
-#[unsafe(no_mangle)]
-pub extern "C" fn vichrelka_book_block(
-    table: &[u8],
-    name: &[u8],
-    number: u32,
-    out: &mut [u8],
-) -> u64
+pub fn vichrelka_book_block(table: &[u8], name: &[u8], number: u32, out: &mut [u8]) -> u64
     ensures { Tells result (λ a. BlockWritten most_names table.now name.now number out.old a out.new) }
 {
     book_block::write(table, name, number, out).for_c()
 }
 
 // uint64_t vichrelka_book_replay(uint8_t *table, size_t table_len, const uint8_t *book, size_t book_len)
-#[unsafe(no_mangle)]
-pub extern "C" fn vichrelka_book_replay(table: &mut [u8], book: &[u8]) -> u64
+pub fn vichrelka_book_replay(table: &mut [u8], book: &[u8]) -> u64
     ensures { Tells result (λ a. Replays most_names book.now table.old a table.new) }
 {
     book_replay::replay(table, book).for_c()
 }
 
 // uint64_t vichrelka_book_tidy(const uint8_t *book, size_t book_len, uint8_t *out, size_t out_len)
-#[unsafe(no_mangle)]
-pub extern "C" fn vichrelka_book_tidy(book: &[u8], out: &mut [u8]) -> u64
+pub fn vichrelka_book_tidy(book: &[u8], out: &mut [u8]) -> u64
     ensures { Tells result (λ a. Tidies most_names book.now out.old a out.new) }
 {
     book_replay::tidy(book, out).for_c()
 }
 
 // uint64_t vichrelka_book_sound(const uint8_t *book, size_t book_len)
-#[unsafe(no_mangle)]
-pub extern "C" fn vichrelka_book_sound(book: &[u8]) -> u64
+pub fn vichrelka_book_sound(book: &[u8]) -> u64
     ensures { Tells result (λ a. CountsSound most_names book.now a) }
 {
     Answer::Accepted(book_replay::sound_blocks(book)).for_c()
 }
 
 // uint64_t vichrelka_ptr_name(uint32_t family, const uint8_t *address, size_t address_len, uint8_t *out, size_t out_len)
-#[unsafe(no_mangle)]
-pub extern "C" fn vichrelka_ptr_name(family: u32, address: &[u8], out: &mut [u8]) -> u64
+pub fn vichrelka_ptr_name(family: u32, address: &[u8], out: &mut [u8]) -> u64
     ensures { Tells result (λ a. PtrWritten family address.now out.old a out.new) }
 {
     ptr::write(family, address, out).for_c()
@@ -187,8 +165,7 @@ pub extern "C" fn vichrelka_ptr_name(family: u32, address: &[u8], out: &mut [u8]
 
 // uint64_t vichrelka_lease(uint8_t *table, size_t table_len, uint8_t *reverse, size_t reverse_len, const uint8_t *name, size_t name_len,
 //                          const uint8_t *dhcid, size_t dhcid_len, uint32_t family, const uint8_t *address, size_t address_len, uint32_t policy)
-#[unsafe(no_mangle)]
-pub extern "C" fn vichrelka_lease(
+pub fn vichrelka_lease(
     table: &mut [u8],
     reverse: &mut [u8],
     name: &[u8],
@@ -204,8 +181,7 @@ pub extern "C" fn vichrelka_lease(
 
 // uint64_t vichrelka_lease_end(uint8_t *table, size_t table_len, uint8_t *reverse, size_t reverse_len, const uint8_t *name, size_t name_len,
 //                              const uint8_t *dhcid, size_t dhcid_len, uint32_t family, const uint8_t *address, size_t address_len)
-#[unsafe(no_mangle)]
-pub extern "C" fn vichrelka_lease_end(
+pub fn vichrelka_lease_end(
     table: &mut [u8],
     reverse: &mut [u8],
     name: &[u8],
@@ -220,8 +196,7 @@ pub extern "C" fn vichrelka_lease_end(
 
 // uint64_t vichrelka_update_add_first(uint16_t id, const uint8_t *zone, size_t zone_len, const uint8_t *name, size_t name_len,
 //                                     const uint8_t *dhcid, size_t dhcid_len, uint32_t family, const uint8_t *address, size_t address_len, uint8_t *out, size_t out_len)
-#[unsafe(no_mangle)]
-pub extern "C" fn vichrelka_update_add_first(
+pub fn vichrelka_update_add_first(
     id: u16,
     zone: &[u8],
     name: &[u8],
@@ -237,8 +212,7 @@ pub extern "C" fn vichrelka_update_add_first(
 
 // uint64_t vichrelka_update_add_second(uint16_t id, const uint8_t *zone, size_t zone_len, const uint8_t *name, size_t name_len,
 //                                      const uint8_t *dhcid, size_t dhcid_len, uint32_t family, const uint8_t *address, size_t address_len, uint8_t *out, size_t out_len)
-#[unsafe(no_mangle)]
-pub extern "C" fn vichrelka_update_add_second(
+pub fn vichrelka_update_add_second(
     id: u16,
     zone: &[u8],
     name: &[u8],
@@ -254,8 +228,7 @@ pub extern "C" fn vichrelka_update_add_second(
 
 // uint64_t vichrelka_update_remove_first(uint16_t id, const uint8_t *zone, size_t zone_len, const uint8_t *name, size_t name_len,
 //                                        const uint8_t *dhcid, size_t dhcid_len, uint32_t family, const uint8_t *address, size_t address_len, uint8_t *out, size_t out_len)
-#[unsafe(no_mangle)]
-pub extern "C" fn vichrelka_update_remove_first(
+pub fn vichrelka_update_remove_first(
     id: u16,
     zone: &[u8],
     name: &[u8],
@@ -281,8 +254,7 @@ pub extern "C" fn vichrelka_update_remove_first(
 
 // uint64_t vichrelka_update_remove_second(uint16_t id, const uint8_t *zone, size_t zone_len, const uint8_t *name, size_t name_len,
 //                                         const uint8_t *dhcid, size_t dhcid_len, uint8_t *out, size_t out_len)
-#[unsafe(no_mangle)]
-pub extern "C" fn vichrelka_update_remove_second(
+pub fn vichrelka_update_remove_second(
     id: u16,
     zone: &[u8],
     name: &[u8],
@@ -295,8 +267,7 @@ pub extern "C" fn vichrelka_update_remove_second(
 }
 
 // uint64_t vichrelka_update_answer(uint16_t id, const uint8_t *answer, size_t answer_len)
-#[unsafe(no_mangle)]
-pub extern "C" fn vichrelka_update_answer(id: u16, answer: &[u8]) -> u64
+pub fn vichrelka_update_answer(id: u16, answer: &[u8]) -> u64
     ensures { Tells result (λ a. ReadsReply id answer.now a) }
 {
     update::reply::read(id, answer).for_c()
