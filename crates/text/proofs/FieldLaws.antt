@@ -100,13 +100,16 @@ module _ (f : Form) (usable : Usable f) where
   extends_small done h = h
   extends_small (digit a e) h = extends_small e a.small
 
+  none_follows : {v n m : ℕ} {p : List ℕ} → Extends f v n p m → v ≡ 0 → 1 ≤ n → f.leading_zeros ≡ false → length p ≡ 0
+  none_follows done none some z = refl
+  none_follows (digit a e) none some z = absurd (omega (arith, a.leading z some))
+
   zero_alone : {m : ℕ} {p : List ℕ} → Extends f 0 0 p m → 1 ≤ length p → f.leading_zeros ≡ false → get_or p 0 0 ≡ 48 → length p ≡ 1
   unfolding digit_value
   zero_alone done some z first = absurd (omega arith)
-  zero_alone (digit a done) some z first = omega arith
-  zero_alone (digit {x} a (digit b e)) some z first =
+  zero_alone (digit {x} a e) some z first =
       let none : digit_value x ≡ 0 = ap digit_value first in
-      absurd (omega (arith, b.leading z (omega arith)))
+      omega (arith, none_follows e (omega arith) (omega arith) z)
 
   extends_field : (p : List ℕ) (m : ℕ) → Extends f 0 0 p m → 1 ≤ length p → Field f p m
   extends_field p m e some =

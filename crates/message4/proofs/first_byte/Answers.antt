@@ -1,6 +1,5 @@
 use native.Mathlib.Omega.{arith}
 use Rattle.message4.proofs.PartLaws4.{part_first}
-use borrow.Author.Rules.{rules}
 use Rattle.message4.proofs.first_byte.Goals as goal
 
 pub returns : goal.returns

@@ -1,6 +1,5 @@
 use native.Mathlib.Omega.{arith}
 use Rattle.message4.proofs.PartLaws4.{duid_short, duid_long, duid_first}
-use borrow.Author.Rules.{rules}
 use Rattle.message4.proofs.has_duid.Goals as goal
 
 pub returns-then-part-lt-SHORTEST_WITH_DUID : goal.returns-then-part-lt-SHORTEST_WITH_DUID

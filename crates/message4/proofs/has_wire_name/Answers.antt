@@ -1,6 +1,5 @@
 use native.Mathlib.Omega.{arith}
 use Rattle.message4.proofs.PartLaws4.{wire_short, wire_first}
-use borrow.Author.Rules.{rules}
 use Rattle.message4.proofs.has_wire_name.Goals as goal
 
 pub returns-then-part-lt-NAME_START : goal.returns-then-part-lt-NAME_START

@@ -1,6 +1,5 @@
 use mathlib.Core.Path.{refl}
 use Rattle.message4.specs.Reading4.{is_bootrequest}
-use borrow.Author.Rules.{rules}
 use Rattle.message4.proofs.is_bootrequest.Goals as goal
 
 pub returns : goal.returns

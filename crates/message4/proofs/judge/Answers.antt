@@ -1,6 +1,4 @@
 use mathlib.Core.Path.{sym, ap, ◌∙◌}
-use borrow.Author.Rules.{rules}
-use borrow.Author.Tests.{not-true, not-false}
 use Rattle.message4.specs.Message4.{identifier4}
 use Rattle.message4.specs.Judging4.{data_of, identified_as}
 use Rattle.message4.specs.declared.Name.{Name}

@@ -1,6 +1,5 @@
 use mathlib.Core.Path.{sym, ◌∙◌}
 use native.Mathlib.Omega.{arith}
-use borrow.Author.Rules.{rules}
 use borrow.Author.Tests.{not-true, not-false}
 use Rattle.message4.proofs.PartLaws4.{wire_least, name_absent, name_other, name_wire}
 use Rattle.message4.proofs.name_in.Goals as goal
@@ -17,23 +16,23 @@ has_wire_name-requires c =
 pub returns-then-not-has_wire_name : goal.returns-then-not-has_wire_name
 returns-then-not-has_wire_name c =
     let found = not-false c.args.client_fqdn.found c.if-not-client_fqdn.false in
-    let other = sym c.has_wire_name.ensures ∙ not-true c.has_wire_name.result c.if-not-has_wire_name.true in
+    let other = sym c.has_wire_name.ensures ∙ c.if-not-has_wire_name.true in
     c.no_name-then-not-has_wire_name.ensures ∙ name_other c.args.message.now c.args.client_fqdn found other
 
 pub overflow_add-result : goal.overflow_add-result
 overflow_add-result c =
     let found = not-false c.args.client_fqdn.found c.if-not-client_fqdn.false in
-    let wire = sym c.has_wire_name.ensures ∙ not-false c.has_wire_name.result c.if-not-has_wire_name.false in
+    let wire = sym c.has_wire_name.ensures ∙ c.if-not-has_wire_name.false in
     omega (arith, c.requires found, wire_least c.args.message.now c.args.client_fqdn.part (c.requires found) wire)
 
 pub overflow_sub-result : goal.overflow_sub-result
 overflow_sub-result c =
     let found = not-false c.args.client_fqdn.found c.if-not-client_fqdn.false in
-    let wire = sym c.has_wire_name.ensures ∙ not-false c.has_wire_name.result c.if-not-has_wire_name.false in
+    let wire = sym c.has_wire_name.ensures ∙ c.if-not-has_wire_name.false in
     wire_least c.args.message.now c.args.client_fqdn.part (c.requires found) wire
 
 pub returns : goal.returns
 returns c =
     let found = not-false c.args.client_fqdn.found c.if-not-client_fqdn.false in
-    let wire = sym c.has_wire_name.ensures ∙ not-false c.has_wire_name.result c.if-not-has_wire_name.false in
+    let wire = sym c.has_wire_name.ensures ∙ c.if-not-has_wire_name.false in
     name_wire c.args.message.now c.args.client_fqdn found (c.requires found) wire

@@ -1,7 +1,5 @@
 use mathlib.Core.Path.{sym, ◌∙◌}
 use native.Mathlib.Omega.{arith}
-use borrow.Author.Rules.{rules}
-use borrow.Author.Tests.{not-true, not-false}
 use Rattle.message4.specs.Message4.{hlen, Reads4}
 use Rattle.message4.proofs.Laws4.{reads_answer, answer_no_bootrequest, answer_long_address, answer_options}
 use Rattle.message4.proofs.read4.Goals as goal

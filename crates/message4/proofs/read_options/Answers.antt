@@ -1,9 +1,7 @@
-use Prim.Native.Nat.{◌+◌, ◌-◌}
+use Prim.Native.Nat.{◌+◌}
 use mathlib.Core.Path.{refl, ◌∙◌}
 use native.Mathlib.Omega.{arith}
-use lib.ListN.{length}
-use borrow.Author.Rules.{rules}
-use Rattle.message4.proofs.WalkLaws4.{Passed, passed_none, passed_inside, no_end, passed_pad, passed_end, no_length, past_end, passed_option}
+use Rattle.message4.proofs.WalkLaws4.{passed_none, passed_inside, no_end, passed_pad, passed_end, no_length, past_end, passed_option}
 use Rattle.message4.proofs.read_options.Goals as goal
 
 pub loop-i-init : goal.loop-i-init

@@ -1,6 +1,5 @@
 use Rattle.message.specs.Options.{having}
 use Rattle.message4.specs.Judging4.{wanted_of}
-use borrow.Author.Rules.{rules}
 use Rattle.message4.proofs.Wanted.none.Goals as goal
 
 pub returns : goal.returns

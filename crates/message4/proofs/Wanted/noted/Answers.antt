@@ -1,5 +1,4 @@
 use Rattle.message4.proofs.JudgeLaws4.{noted_overload, noted_message_type, noted_client_id, noted_client_fqdn, noted_other}
-use borrow.Author.Rules.{rules}
 use Rattle.message4.proofs.Wanted.noted.Goals as goal
 
 pub returns-in-52 : goal.returns-in-52

@@ -1,5 +1,4 @@
 use mathlib.Core.Path.{◌∙◌}
-use borrow.Author.Rules.{rules}
 use Rattle.name.proofs.LabelLaws.{label_set}
 use Rattle.name.proofs.byte.is_label_byte.Goals as goal
 

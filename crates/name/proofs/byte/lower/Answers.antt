@@ -1,6 +1,5 @@
 use mathlib.Core.Path.{sym}
 use native.Mathlib.Omega.{arith}
-use borrow.Author.Rules.{rules}
 use Rattle.name.specs.Label.{is_upper}
 use Rattle.base.proofs.Tests.{within, under, over}
 use Rattle.name.proofs.LabelLaws.{lower_upper, lower_other}

@@ -1,8 +1,6 @@
-use Prim.Native.Nat.{◌-◌}
 use native.Mathlib.Omega.{arith}
-use borrow.Author.Rules.{rules}
-use lib.ListN.{length, get_or}
-use Rattle.name.proofs.NotInLabelLaws.{Counted, not_in_label_one, counted_none, counted_more, counted_all}
+use lib.ListN.{get_or}
+use Rattle.name.proofs.NotInLabelLaws.{not_in_label_one, counted_none, counted_more, counted_all}
 use Rattle.name.proofs.wire.count_not_in_label.Goals as goal
 
 pub loop-i-init : goal.loop-i-init

@@ -1,8 +1,6 @@
 use Prim.Native.Nat.{◌-◌}
-use native.Mathlib.Omega.{arith}
-use borrow.Author.Rules.{rules}
-use lib.ListN.{length, get_or}
-use Rattle.name.proofs.NotInLabelLaws.{Counted, not_in_label_one, counted_none, counted_more, counted_all}
+use lib.ListN.{length}
+use Rattle.name.proofs.NotInLabelLaws.{Counted}
 use Rattle.name.proofs.wire.count_not_in_label.Given as goal
 
 abbrev pub invariant-loop-i : goal.invariant-loop-i

@@ -1,9 +1,5 @@
 use Prim.Native.Nat.{◌-◌}
-use native.Mathlib.Omega.{arith}
-use borrow.Author.Rules.{rules}
-use Rattle.base.proofs.Tests.{no_by}
-use Rattle.name.proofs.WireLaws.{proper_short}
-use Rattle.name.proofs.NotInLabelLaws.{Hopped, proper_two, held_decides, hopped_none, hopped_not_in_label, hopped_last, hopped_long, hopped_more, hopped_end}
+use Rattle.name.proofs.NotInLabelLaws.{Hopped}
 use Rattle.name.proofs.wire.is_canonical.Given as goal
 
 abbrev pub invariant-loop-i : goal.invariant-loop-i

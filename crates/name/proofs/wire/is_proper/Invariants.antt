@@ -1,13 +1,7 @@
-use Prim.Native.Nat.{ℕ, ◌+◌, ◌-◌, ◌≤◌, ◌<◌}
-use mathlib.Core.Path.{◌≡◌, refl, sym, ap, ◌∙◌}
-use mathlib.Core.Logic.{⊎_elim}
-use native.Mathlib.Omega.{arith}
-use borrow.Author.Rules.{rules}
-use borrow.Author.Tests.{not-true, not-false}
-use lib.ListN.{length, drop, get_or-eq_default}
-use Rattle.base.proofs.Tests.{no_by}
+use Prim.Native.Nat.{◌-◌, ◌≤◌}
+use mathlib.Core.Path.{◌≡◌}
+use lib.ListN.{length, drop}
 use Rattle.name.specs.ProperTest.{accepts}
-use Rattle.name.proofs.WireLaws.{proper_first, proper_short, decided, at_zero, at_long_label, at_label, at_byte, at_other_byte, at_end_of_bytes}
 use Rattle.name.proofs.wire.is_proper.Given as goal
 
 abbrev pub invariant-loop-i : goal.invariant-loop-i

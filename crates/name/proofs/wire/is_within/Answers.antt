@@ -1,7 +1,6 @@
 use mathlib.Core.List.{List}
 use Prim.Native.Nat.{ℕ, ◌-◌, ◌<◌, ◌≤◌}
 use native.Mathlib.Omega.{arith}
-use borrow.Author.Rules.{rules}
 use lib.ListN.{length}
 use Rattle.name.specs.Name.{canonical}
 use Rattle.name.proofs.NameLaws.{length_canonical}

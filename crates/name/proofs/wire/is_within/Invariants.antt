@@ -1,11 +1,7 @@
 use Prim.Native.Nat.{◌-◌, ◌≤◌}
-use native.Mathlib.Omega.{arith}
-use borrow.Author.Rules.{rules}
 use lib.ListN.{length}
 use Rattle.name.specs.Name.{canonical}
-use Rattle.name.proofs.NameLaws.{length_canonical}
-use Rattle.name.proofs.WireLaws.{proper_short}
-use Rattle.name.proofs.WithinLaws.{Walked, Turn, walked_none, walked_more, walked_end}
+use Rattle.name.proofs.WithinLaws.{Walked}
 use Rattle.name.proofs.wire.is_within.Given as goal
 
 abbrev pub invariant-loop-at : goal.invariant-loop-at

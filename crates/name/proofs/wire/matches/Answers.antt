@@ -1,11 +1,8 @@
-use Prim.Native.Nat.{◌+◌, ◌-◌, ◌≤◌}
+use Prim.Native.Nat.{◌+◌}
 use mathlib.Core.Path.{sym, ap, ◌∙◌}
 use native.Mathlib.Omega.{arith}
-use borrow.Author.Rules.{rules}
-use borrow.Author.Tests.{not-true, not-false}
 use lib.ListN.{length}
 use Rattle.base.proofs.Tests.{yes_by, no_by}
-use Rattle.name.specs.NotInLabel.{Agree}
 use Rattle.name.proofs.NameLaws.{length_canonical}
 use Rattle.name.proofs.MatchLaws.{agree_none, agree_on, agree_byte, agree_same, agree_all}
 use Rattle.name.proofs.wire.matches.Goals as goal

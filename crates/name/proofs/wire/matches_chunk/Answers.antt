@@ -1,9 +1,7 @@
-use Prim.Native.Nat.{◌-◌}
 use mathlib.Core.Bool.{true≢false}
 use mathlib.Core.Path.{sym, ◌∙◌}
 use native.Mathlib.Omega.{arith}
-use borrow.Author.Rules.{rules}
-use Rattle.name.proofs.MatchLaws.{Agreeing, agreeing_none, agreeing_more, agreeing_all}
+use Rattle.name.proofs.MatchLaws.{agreeing_none, agreeing_more, agreeing_all}
 use Rattle.name.proofs.wire.matches_chunk.Goals as goal
 
 pub loop-i-init : goal.loop-i-init

@@ -1,11 +1,7 @@
 use Prim.Native.Nat.{◌-◌}
-use mathlib.Core.Path.{sym, ◌∙◌}
-use native.Mathlib.Omega.{arith}
-use borrow.Author.Rules.{rules}
 use lib.ListN.{length}
-use Rattle.base.proofs.Fill.{Copied, copied_none, copied_more, copied_all}
+use Rattle.base.proofs.Fill.{Copied}
 use Rattle.name.specs.Name.{canonical}
-use Rattle.name.proofs.NameLaws.{length_canonical, get_or_canonical}
 use Rattle.name.proofs.wire.put_canonical.Given as goal
 
 abbrev pub invariant-loop-i : goal.invariant-loop-i

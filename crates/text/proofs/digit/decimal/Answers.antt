@@ -4,7 +4,6 @@ use mathlib.Core.List.{List, [], ◌∷◌, ◌++◌}
 use native.Mathlib.Omega.{arith}
 use lib.ListN.{length}
 use Rattle.text.proofs.DigitLaws.{decimal_single, decimal_more}
-use borrow.Author.Rules.{rules}
 use Rattle.text.proofs.digit.decimal.Goals as goal
 
 pub returns-then-n-lt10 : goal.returns-then-n-lt10

@@ -2,7 +2,6 @@ use mathlib.Core.Path.{sym}
 use native.Mathlib.Omega.{arith}
 use Rattle.base.proofs.Tests.{within, under, over}
 use Rattle.text.proofs.DigitLaws.{digit_value_lem}
-use borrow.Author.Rules.{rules}
 use Rattle.text.proofs.digit.digit_value.Goals as goal
 
 pub returns-in-48-to-57 : goal.returns-in-48-to-57

@@ -1,6 +1,5 @@
 use borrow.Author.Tests.{lt-ltb, le-ltb}
 use Rattle.text.specs.Digits.{hex_digit}
-use borrow.Author.Rules.{rules}
 use Rattle.text.proofs.digit.hex_digit.Goals as goal
 
 pub returns-then-v-lt10 : goal.returns-then-v-lt10

@@ -7,7 +7,6 @@ use lib.ListN.{length, length-set}
 use Rattle.base.specs.Bytes.{overlay}
 use Rattle.base.proofs.Bytes.{set_overlay, overlay_append}
 use Rattle.text.specs.Digits.{preceded}
-use borrow.Author.Rules.{rules}
 use Rattle.text.proofs.field.put_part.Goals as goal
 
 pub put-requires : goal.put-requires

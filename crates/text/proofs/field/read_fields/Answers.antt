@@ -1,12 +1,11 @@
-use Prim.Native.Nat.{ℕ, ◌+◌, ◌-◌, ◌*◌}
+use Prim.Native.Nat.{ℕ, ◌+◌, ◌*◌}
 use mathlib.Core.Path.{sym, ap, subst, ◌∙◌}
-use mathlib.Core.Logic.{inl, ⊎_elim}
+use mathlib.Core.Logic.{inl}
 use native.Mathlib.Omega.{arith}
-use borrow.Author.Rules.{rules}
-use lib.ListN.{length}
 use Rattle.text.specs.Field.{Allowed}
-use Rattle.text.proofs.ScanLaws.{Scanning, refused, scanning_none, scanning_next, scanning_digit, scanning_all, no_digits, too_many, no_digit, ends_empty, ends_few}
+use Rattle.text.proofs.ScanLaws.{refused, scanning_none, scanning_next, scanning_digit, scanning_all, no_digits, too_many, no_digit, ends_empty, ends_few}
 use Rattle.text.proofs.field.read_fields.Goals as goal
+use Rattle.text.proofs.field.read_fields.Goals.{then-b-separator+else-digits-eq0+else-last-k, else-b-separator+else-next-eq-NONE}
 
 pub overflow_sub-last : goal.overflow_sub-last
 overflow_sub-last c = omega (arith, c.requires.some)
@@ -61,13 +60,16 @@ loop-i-preserved c =
     let f = c.args.form in
     let usable = c.requires in
     let l = c.loop-i in
-    ⊎_elim
-    (λ w'. rw (w'.3, w'.4, w'.5, w'.6) (scanning_next f usable w l.values l.k l.value l.digits l.i l.invariant (omega arith) w'.0.taken w'.1.left (omega (arith, w'.2.left))))
-    (λ w'. rw (w'.4, w'.5, w'.6, w'.7)
-    (scanning_digit f usable w l.values l.k l.value l.digits l.i l.invariant (omega arith) _ w'.0.left
-    (subst (Allowed f l.value l.digits) w'.1.ensures (w'.2.ensures.may w'.3.left))
-    (w'.2.ensures.is w'.3.left ∙ ap (λ (d : ℕ). l.value * f.base + d) w'.1.ensures)))
-    c.if-b-separator.branch
+    elim c.if-b-separator.branch [
+      then-b-separator+else-digits-eq0+else-last-k w' ↦
+          rw (w'.values-is, w'.k-is, w'.value-is, w'.digits-is)
+          (scanning_next f usable w l.values l.k l.value l.digits l.i l.invariant (omega arith) w'.if-b-separator.true w'.if-digits-eq0.false (omega (arith, w'.if-last-k.false)))
+    | else-b-separator+else-next-eq-NONE w' ↦
+          rw (w'.values-is, w'.k-is, w'.value-is, w'.digits-is)
+          (scanning_digit f usable w l.values l.k l.value l.digits l.i l.invariant (omega arith) _ w'.if-b-separator.false
+          (subst (Allowed f l.value l.digits) w'.digit_value.ensures (w'.with_digit-next.ensures.may w'.if-next-eq-NONE.false))
+          (w'.with_digit-next.ensures.is w'.if-next-eq-NONE.false ∙ ap (λ (d : ℕ). l.value * f.base + d) w'.digit_value.ensures))
+    ]
 
 pub returns-then-digits-eq0-2 : goal.returns-then-digits-eq0-2
 returns-then-digits-eq0-2 c =
