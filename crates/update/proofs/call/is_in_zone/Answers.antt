@@ -10,6 +10,7 @@ use Rattle.name.proofs.WithinLaws.{proper_two}
 use Rattle.update.proofs.PlacedLaws.{in_zone_by}
 use Rattle.update.proofs.RestLaws.{owner_is}
 use borrow.Author.Rules.{rules}
+use Rattle.update.proofs.call.is_in_zone.Goals.{After-put_canonical}
 use Rattle.update.proofs.call.is_in_zone.Goals as goal
 
 pub returns-then-name-gt-LONGEST : goal.returns-then-name-gt-LONGEST
@@ -23,13 +24,13 @@ returns-then-zone-lt-SHORTEST c =
     record { decides = no_by (λ h. omega (arith, proper_two z h.zone, c.if-zone-lt-SHORTEST.true)); room_after = λ t. absurd (false≢true t) }
 
 -- the canonical form that is lent
-owner : (c : goal.After-put_canonical) → let n = c.args.name.now in take (length n) c.put_canonical.new.to ≡ canonical n
+owner : (c : After-put_canonical) → let n = c.args.name.now in take (length n) c.put_canonical.new.to ≡ canonical n
 owner c = owner_is _ _ c.args.name.now c.put_canonical.ensures
 
 pub slice_bounds-is_placed-end-2 : goal.slice_bounds-is_placed-end-2
-slice_bounds-is_placed-end-2 c = sym (ap length (owner c.before.before.before) ∙ length_canonical c.args.name.now)
+slice_bounds-is_placed-end-2 c = sym (ap length (owner (goal.at.slice_bounds-is_placed-end-2 c).After-put_canonical) ∙ length_canonical c.args.name.now)
 
 pub returns : goal.returns
 returns c =
     let a = c.args in
-    record { decides = in_zone_by a.name.now _ a.zone.now (owner c.before.before.before.before) c.if-zone-lt-SHORTEST.false _ c.is_placed.ensures; room_after = λ t. c.put_canonical.ensures }
+    record { decides = in_zone_by a.name.now _ a.zone.now (owner (goal.at.returns c).After-put_canonical) c.if-zone-lt-SHORTEST.false _ c.is_placed.ensures; room_after = λ t. c.put_canonical.ensures }

@@ -1,17 +1,14 @@
 use borrow.Author.Rules.{rules}
 use Rattle.update.proofs.message.put_message.Goals as goal
 
-pub put_add_first-requires : goal.put_add_first-requires
-put_add_first-requires c =
-    (c.requires.zone_len_bound, (c.requires.owner_len_bound, (c.requires.dhcid_len, (c.requires.address_len_bound, rw c.in-AddFirst.is at c.requires.address_in_bounds))))
+pub put_add_first-requires-clause-address_in_bounds : goal.put_add_first-requires-clause-address_in_bounds
+put_add_first-requires-clause-address_in_bounds c = rw c.in-AddFirst.is at c.requires.address_in_bounds
 
-pub put_add_second-requires : goal.put_add_second-requires
-put_add_second-requires c =
-    (c.requires.zone_len_bound, (c.requires.owner_len_bound, (c.requires.dhcid_len, (c.requires.address_len_bound, rw c.in-AddSecond.is at c.requires.address_in_bounds))))
+pub put_add_second-requires-clause-address_in_bounds : goal.put_add_second-requires-clause-address_in_bounds
+put_add_second-requires-clause-address_in_bounds c = rw c.in-AddSecond.is at c.requires.address_in_bounds
 
-pub put_remove_first-requires : goal.put_remove_first-requires
-put_remove_first-requires c =
-    (c.requires.zone_len_bound, (c.requires.owner_len_bound, (c.requires.dhcid_len, (c.requires.address_len_bound, rw c.in-RemoveFirst.is at c.requires.address_in_bounds))))
+pub put_remove_first-requires-clause-address_in_bounds : goal.put_remove_first-requires-clause-address_in_bounds
+put_remove_first-requires-clause-address_in_bounds c = rw c.in-RemoveFirst.is at c.requires.address_in_bounds
 
 pub returns-in-AddFirst : goal.returns-in-AddFirst
 returns-in-AddFirst c = rw c.in-AddFirst.is c.put_add_first.ensures.out_after
