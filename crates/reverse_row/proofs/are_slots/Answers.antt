@@ -12,11 +12,8 @@ use Rattle.reverse.specs.Form.{slot_bytes, WellFormed}
 use Rattle.reverse.specs.Promise.{IsReverseSlot}
 use Rattle.reverse.specs.Sizes.{reverse_slot_size, most_addresses}
 use Rattle.reverse.proofs.SlotLaws.{length_slot, slot_marked}
+use Rattle.reverse_row.proofs.are_slots.Invariants.{some_bytes}
 use Rattle.reverse_row.proofs.are_slots.Goals as goal
-
--- a slot has a first byte
-some_bytes : 1 ≤ reverse_slot_size
-some_bytes = omega arith
 
 pub loop-i-init : goal.loop-i-init
 loop-i-init c = row_reached_none slot_bytes reverse_slot_size WellFormed length_slot some_bytes slot_marked most_addresses _

@@ -14,6 +14,10 @@ use Rattle.reverse.specs.Sizes.{reverse_slot_size, most_addresses}
 use Rattle.reverse.proofs.SlotLaws.{length_slot, slot_marked}
 use Rattle.reverse_row.proofs.are_slots.Given as goal
 
+-- a slot has a first byte
+pub some_bytes : 1 ≤ reverse_slot_size
+some_bytes = omega arith
+
 abbrev pub invariant-loop-i : goal.invariant-loop-i
 invariant-loop-i l = RowReached slot_bytes reverse_slot_size WellFormed length_slot some_bytes slot_marked most_addresses l.reverse l.i
 
