@@ -21,4 +21,4 @@ returns-in-3 c =
     }
 
 pub returns-in_default : goal.returns-in_default
-returns-in_default c = no_by (λ p. ⊎_elim (λ q. c.in_default.in_default-own.rest.0.1 q.0) (λ q. c.in_default.in_default-own.rest.1 q.0) p)
+returns-in_default c = no_by (λ p. ⊎_elim (λ q. omega (arith, q.0)) (λ q. omega (arith, q.0)) p)
