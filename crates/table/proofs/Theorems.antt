@@ -52,9 +52,9 @@ use Rattle.table.proofs.DemandLaws.{
 
 module _ (limit : ℕ) (b name dhcid : List ℕ) (family : ℕ) (address : List ℕ) (policy : ℕ) where
   -- the promise determines the answer and what is left
-  pub one-add : (r q : Answer) (left also : List ℕ) → Adds limit b name dhcid family address policy r left → Adds limit b name dhcid family address policy q also → (r ≡ q) × (left ≡ also)
+  pub one_add : (r q : Answer) (left also : List ℕ) → Adds limit b name dhcid family address policy r left → Adds limit b name dhcid family address policy q also → (r ≡ q) × (left ≡ also)
   unfolding Adds
-  one-add r q left also h k = one_call limit (argument_tests limit (KnownFamily family × KnownPolicy policy) b name dhcid family address) b _ r q left also h k
+  one_add r q left also h k = one_call limit (argument_tests limit (KnownFamily family × KnownPolicy policy) b name dhcid family address) b _ r q left also h k
 
   module _ (r : Answer) (left : List ℕ) (h : Adds limit b name dhcid family address policy r left) where
     -- a refused add changes nothing
