@@ -1,4 +1,3 @@
-use borrow.Author.Rules.{rules}
 use Rattle.message6.proofs.is_name.Goals as goal
 
 pub returns-then-name : goal.returns-then-name

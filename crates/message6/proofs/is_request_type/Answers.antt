@@ -17,10 +17,10 @@ renew-or-rebind k low high =
     by_ltb k 6 (λ h. let e : k ≡ 5 = omega arith in sym (ap is_request_type e)) (λ h. let e : k ≡ 6 = omega arith in sym (ap is_request_type e))
 
 pub returns-in_default : goal.returns-in_default
-returns-in_default c = no-request c.args.kind c.in_default-1.rest.1 (λ e. omega (arith, e)) (λ e. omega (arith, e))
+returns-in_default c = no-request c.args.kind (λ e. omega (arith, e)) (λ e. omega (arith, e)) (λ e. omega (arith, e))
 
 pub returns-in_default-2 : goal.returns-in_default-2
-returns-in_default-2 c = no-request c.args.kind c.in_default-1.rest.1 (λ e. omega (arith, e)) (λ e. omega (arith, e))
+returns-in_default-2 c = no-request c.args.kind (λ e. omega (arith, e)) (λ e. omega (arith, e)) (λ e. omega (arith, e))
 
 pub returns-in-3 : goal.returns-in-3
 unfolding is_request_type

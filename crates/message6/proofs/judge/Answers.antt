@@ -3,8 +3,7 @@ use mathlib.Core.Bool.{true}
 use mathlib.Core.Path.{◌≡◌, sym, ◌∙◌}
 use native.Mathlib.Omega.{arith}
 use lib.Dec.{leb}
-use borrow.Author.Rules.{rules}
-use borrow.Author.Tests.{leb-true, not-true, not-false}
+use borrow.Author.Tests.{leb-true}
 use Rattle.base.proofs.Tests.{and_right}
 use Rattle.message6.specs.Walking6.{is_name, judged}
 use Rattle.message6.proofs.judge.Goals as goal

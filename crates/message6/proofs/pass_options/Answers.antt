@@ -1,10 +1,7 @@
-use Prim.Native.Nat.{◌+◌, ◌-◌, ◌≤◌, ◌<◌}
-use mathlib.Core.Path.{◌≡◌, ◌∙◌}
+use Prim.Native.Nat.{◌+◌, ◌≤◌}
+use mathlib.Core.Path.{◌∙◌}
 use native.Mathlib.Omega.{arith}
-use borrow.Author.Rules.{rules}
-use Rattle.message6.specs.Walking6.{level_met}
-use Rattle.message6.specs.declared.LevelSeen.{LevelSeen}
-use Rattle.message6.proofs.PassLaws6.{Passing, level, level_relayed, level_duid, level_name, level_other, passing_none, passing_short, passing_past, passing_more, passing_end}
+use Rattle.message6.proofs.PassLaws6.{level, level_relayed, level_duid, level_name, level_other, passing_none, passing_short, passing_past, passing_more, passing_end}
 use Rattle.message6.proofs.pass_options.Goals as goal
 
 pub loop-at-init : goal.loop-at-init
@@ -70,64 +67,45 @@ pub overflow_add-at-in-loop-at-3 : goal.overflow_add-at-in-loop-at-3
 overflow_add-at-in-loop-at-3 c =
     omega (arith, c.loop-at.invariant.high, c.requires, c.well_formed.0.0)
 
--- one option more, whatever it is
-turn : (f : goal.Else-end-from)
-    → let a = f.args in
-    (s : LevelSeen)
-    → s ≡ level_met (level f.loop-at.relayed f.loop-at.duid f.loop-at.name) f.be16-code.result (record { start = f.loop-at.at + 4; len = f.be16-len.result })
-    → Passing a.message.now a.start a.end (f.loop-at.at + 4 + f.be16-len.result) s
-turn f =
-    let a = f.args in
-    let more : f.loop-at.at + 4 ≤ a.end = omega (arith, f.loop-at.invariant.high, f.requires, f.well_formed.0.0) in
-    passing_more a.message.now a.start a.end f.loop-at.at (level f.loop-at.relayed f.loop-at.duid f.loop-at.name) f.loop-at.invariant f.requires.1 more
-    f.be16-code.result f.be16-len.result f.be16-code.ensures f.be16-len.ensures (λ i. (f.type_inv.message i).fits) f.if-end-from.false
-
-falls : (f : goal.Else-end-from)
-    → let a = f.args in
-    a.end - (f.loop-at.at + 4 + f.be16-len.result) < a.end - f.loop-at.at
-falls f =
-    omega (arith, f.loop-at.invariant.high, f.requires, f.well_formed.0.0, f.loop-at-test.true)
-
-pub loop-at-smaller-in-9 : goal.loop-at-smaller-in-9
-loop-at-smaller-in-9 c = falls c.before.before
-
 pub loop-at-preserved-in-9 : goal.loop-at-preserved-in-9
 loop-at-preserved-in-9 c =
+    let a = c.args in
     let l = c.loop-at in
-    turn c.before.before
+    let more : l.at + 4 ≤ a.end = omega (arith, l.invariant.high, c.requires, c.well_formed.0.0) in
+    passing_more a.message.now a.start a.end l.at (level l.relayed l.duid l.name) l.invariant c.requires.1 more
+    c.be16-code.result c.be16-len.result c.be16-code.ensures c.be16-len.ensures (λ i. (c.type_inv.message i).fits) c.if-end-from.false
     (level c.met-relayed.result l.duid l.name)
     (level_relayed l.relayed l.duid l.name c.met-relayed.result c.be16-code.result _ c.in-9.is c.met-relayed.ensures)
 
-pub loop-at-smaller-in-1 : goal.loop-at-smaller-in-1
-loop-at-smaller-in-1 c = falls c.before.before
-
 pub loop-at-preserved-in-1 : goal.loop-at-preserved-in-1
 loop-at-preserved-in-1 c =
+    let a = c.args in
     let l = c.loop-at in
-    turn c.before.before
+    let more : l.at + 4 ≤ a.end = omega (arith, l.invariant.high, c.requires, c.well_formed.0.0) in
+    passing_more a.message.now a.start a.end l.at (level l.relayed l.duid l.name) l.invariant c.requires.1 more
+    c.be16-code.result c.be16-len.result c.be16-code.ensures c.be16-len.ensures (λ i. (c.type_inv.message i).fits) c.if-end-from.false
     (level l.relayed c.met-duid.result l.name)
     (level_duid l.relayed l.duid l.name c.met-duid.result c.be16-code.result _ c.in-1.is c.met-duid.ensures)
 
-pub loop-at-smaller-in-39 : goal.loop-at-smaller-in-39
-loop-at-smaller-in-39 c = falls c.before.before
-
 pub loop-at-preserved-in-39 : goal.loop-at-preserved-in-39
 loop-at-preserved-in-39 c =
+    let a = c.args in
     let l = c.loop-at in
-    turn c.before.before
+    let more : l.at + 4 ≤ a.end = omega (arith, l.invariant.high, c.requires, c.well_formed.0.0) in
+    passing_more a.message.now a.start a.end l.at (level l.relayed l.duid l.name) l.invariant c.requires.1 more
+    c.be16-code.result c.be16-len.result c.be16-code.ensures c.be16-len.ensures (λ i. (c.type_inv.message i).fits) c.if-end-from.false
     (level l.relayed l.duid c.met-name.result)
     (level_name l.relayed l.duid l.name c.met-name.result c.be16-code.result _ c.in-39.is c.met-name.ensures)
 
-pub loop-at-smaller : goal.loop-at-smaller
-loop-at-smaller c = falls c.before
-
 pub loop-at-preserved : goal.loop-at-preserved
 loop-at-preserved c =
+    let a = c.args in
     let l = c.loop-at in
-    let r = c.in_default.in_default-own.rest in
-    turn c.before
+    let more : l.at + 4 ≤ a.end = omega (arith, l.invariant.high, c.requires, c.well_formed.0.0) in
+    passing_more a.message.now a.start a.end l.at (level l.relayed l.duid l.name) l.invariant c.requires.1 more
+    c.be16-code.result c.be16-len.result c.be16-code.ensures c.be16-len.ensures (λ i. (c.type_inv.message i).fits) c.if-end-from.false
     (level l.relayed l.duid l.name)
-    (level_other l.relayed l.duid l.name c.be16-code.result _ (λ e. r.0.0.1 e) (λ e. r.0.1 e) (λ e. r.1 e))
+    (level_other l.relayed l.duid l.name c.be16-code.result _ (λ e. omega (arith, e)) (λ e. omega (arith, e)) (λ e. omega (arith, e)))
 
 pub returns : goal.returns
 returns c =

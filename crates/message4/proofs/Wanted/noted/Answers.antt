@@ -1,3 +1,4 @@
+use native.Mathlib.Omega.{arith}
 use Rattle.message4.proofs.JudgeLaws4.{noted_overload, noted_message_type, noted_client_id, noted_client_fqdn, noted_other}
 use Rattle.message4.proofs.Wanted.noted.Goals as goal
 
@@ -24,5 +25,4 @@ returns-in-81 c =
 pub returns-in_default : goal.returns-in_default
 returns-in_default c =
     let a = c.args in
-    let r = c.in_default.in_default-own.rest in
-    noted_other a.self a.code a.part (λ e. r.0.0.0.1 e) (λ e. r.0.0.1 e) (λ e. r.0.1 e) (λ e. r.1 e)
+    noted_other a.self a.code a.part (λ e. omega (arith, e)) (λ e. omega (arith, e)) (λ e. omega (arith, e)) (λ e. omega (arith, e))

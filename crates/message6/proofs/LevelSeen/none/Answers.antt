@@ -1,4 +1,3 @@
-use borrow.Author.Rules.{rules}
 use Rattle.message6.specs.Walking6.{nothing_seen}
 use Rattle.message6.proofs.LevelSeen.none.Goals as goal
 
