@@ -9,4 +9,4 @@ use Rattle.dhcid.proofs.put_rdata.Goals as goal
 pub returns : goal.returns
 returns c =
     let start = c.args in
-    c.put-2.ensures ∙ ap (λ (l : List ℕ). overlay l 3 start.t2) c.put.ensures ∙ rdata_written start.out.now start.id_type start.t2
+    c.put-2.ensures ∙ ap (λ (l : List ℕ). overlay l 3 start.digest) c.put.ensures ∙ rdata_written start.out.now start.id_type start.digest
