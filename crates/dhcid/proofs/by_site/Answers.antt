@@ -1,8 +1,6 @@
 use mathlib.Core.Path.{sym, ◌∙◌}
-use borrow.Author.Tests.{not-true, not-false}
 use Rattle.dhcid.specs.Chosen.{from_site}
 use Rattle.dhcid.proofs.ChoiceLaws.{same_test, site_proper, site_improper}
-use borrow.Author.Rules.{rules}
 use Rattle.dhcid.proofs.by_site.Goals as goal
 
 pub returns-then-not-is_proper : goal.returns-then-not-is_proper

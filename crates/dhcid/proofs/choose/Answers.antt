@@ -1,7 +1,6 @@
 use mathlib.Core.Path.{ap, ◌∙◌}
 use Rattle.dhcid.specs.Choosing.{chosen_for, choose}
 use Rattle.dhcid.proofs.SaysLaws.{read_placed}
-use borrow.Author.Rules.{rules}
 use Rattle.dhcid.proofs.choose.Goals as goal
 
 pub pick-requires : goal.pick-requires

@@ -2,7 +2,6 @@ use mathlib.Core.Path.{subst}
 use Rattle.dhcid.specs.Handing.{HandsOn}
 use Rattle.dhcid.specs.declared.Chosen.{Chosen}
 use Rattle.dhcid.proofs.ChoiceLaws.{lies_as}
-use borrow.Author.Rules.{rules}
 use Rattle.dhcid.proofs.chosen_name.Goals as goal
 
 pub name_of-requires : goal.name_of-requires

@@ -3,7 +3,6 @@ use Rattle.base.specs.declared.Answer.TheVariants.{Accepted}
 use Rattle.dhcid.specs.Chosen.{name_answer}
 use Rattle.dhcid.proofs.ChoiceLaws.{lies_as}
 use Rattle.dhcid.proofs.WritingLaws.{name_refused, name_chosen}
-use borrow.Author.Rules.{rules}
 use Rattle.dhcid.proofs.locate.Goals as goal
 
 pub returns-then-chosen-ne0 : goal.returns-then-chosen-ne0

@@ -1,7 +1,6 @@
 use mathlib.Core.Path.{◌≡◌, sym, ap}
 use native.Mathlib.Omega.{arith}
 use Rattle.dhcid.specs.Chosen.{source_number, packed_name}
-use borrow.Author.Rules.{rules}
 use Rattle.dhcid.proofs.packed.Goals as goal
 
 pub returns-then-from_site : goal.returns-then-from_site

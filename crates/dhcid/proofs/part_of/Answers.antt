@@ -3,7 +3,6 @@ use mathlib.Core.Path.{◌≡◌, refl, ap}
 use native.Mathlib.Omega.{arith}
 use lib.ListN.{take, drop}
 use Rattle.message.specs.Request.{bytes_of}
-use borrow.Author.Rules.{rules}
 use Rattle.dhcid.proofs.part_of.Goals as goal
 
 pub returns : goal.returns

@@ -1,7 +1,6 @@
 use mathlib.Core.Path.{sym, ◌∙◌}
 use Rattle.dhcid.specs.Chosen.{from_message}
 use Rattle.dhcid.proofs.ChoiceLaws.{for_refused, for_client, for_site}
-use borrow.Author.Rules.{rules}
 use Rattle.dhcid.proofs.pick.Goals as goal
 
 pub returns-then-request-ne0 : goal.returns-then-request-ne0

@@ -3,7 +3,6 @@ use mathlib.Core.List.{List}
 use Prim.Native.Nat.{ℕ}
 use Rattle.base.specs.Bytes.{overlay}
 use Rattle.dhcid.proofs.WritingLaws.{rdata_written}
-use borrow.Author.Rules.{rules}
 use Rattle.dhcid.proofs.put_rdata.Goals as goal
 
 pub returns : goal.returns

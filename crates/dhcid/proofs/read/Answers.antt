@@ -1,7 +1,5 @@
 use mathlib.Core.Path.{sym, ◌∙◌}
-use borrow.Author.Tests.{not-true, not-false}
 use Rattle.dhcid.proofs.SaysLaws.{said_unknown, said_v4, said_v6}
-use borrow.Author.Rules.{rules}
 use Rattle.dhcid.proofs.read.Goals as goal
 
 pub returns-then-not-is_known : goal.returns-then-not-is_known

@@ -2,7 +2,6 @@ use mathlib.Core.Path.{ap, ◌∙◌}
 use borrow.Author.Tests.{not-true, not-false}
 use Rattle.name.specs.ProperTest.{is_proper}
 use Rattle.dhcid.proofs.ChoiceLaws.{same_test, other_setting, no_name, with_name}
-use borrow.Author.Rules.{rules}
 use Rattle.dhcid.proofs.uses_clients.Goals as goal
 
 pub returns-then-setting-ne-CLIENT_FIRST : goal.returns-then-setting-ne-CLIENT_FIRST

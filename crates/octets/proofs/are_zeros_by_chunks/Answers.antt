@@ -3,7 +3,6 @@ use mathlib.Core.Path.{ap, ◌∙◌}
 use mathlib.Core.List.{List}
 use native.Mathlib.Omega.{arith}
 use lib.ListN.{length, get_or, get_or-replicate, length-take}
-use borrow.Author.Rules.{rules}
 use Rattle.base.proofs.Tests.{yes_by, no_by}
 use Rattle.octets.proofs.SameLaws.{zeros_none, zeros_decided}
 use Rattle.octets.proofs.are_zeros_by_chunks.Goals as goal

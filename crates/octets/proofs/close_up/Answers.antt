@@ -2,7 +2,6 @@ use Prim.Native.Nat.{ℕ, ◌-◌}
 use mathlib.Core.Path.{◌∙◌}
 use mathlib.Core.List.{List}
 use lib.ListN.{replicate}
-use borrow.Author.Rules.{rules}
 use Rattle.base.specs.Bytes.{overlay}
 use Rattle.octets.proofs.CloseUpLaws.{closed_up_lem}
 use Rattle.octets.proofs.close_up.Goals as goal

@@ -1,7 +1,7 @@
-use Prim.Native.Nat.{◌+◌, ◌-◌}
+use Prim.Native.Nat.{◌+◌}
 use native.Mathlib.Omega.{arith}
 use lib.ListN.{drop, length-drop}
-use Rattle.base.proofs.Fill.{Copied, copied_none, copied_more, copied_all}
+use Rattle.base.proofs.Fill.{copied_none, copied_more, copied_all}
 use Rattle.octets.proofs.CloseUpLaws.{read_behind}
 use Rattle.octets.proofs.move_up.Goals as goal
 

@@ -1,8 +1,6 @@
 use Prim.Native.Nat.{◌+◌, ◌-◌}
-use native.Mathlib.Omega.{arith}
-use lib.ListN.{drop, length-drop}
-use Rattle.base.proofs.Fill.{Copied, copied_none, copied_more, copied_all}
-use Rattle.octets.proofs.CloseUpLaws.{read_behind}
+use lib.ListN.{drop}
+use Rattle.base.proofs.Fill.{Copied}
 use Rattle.octets.proofs.move_up.Given as goal
 
 abbrev pub invariant-loop-i : goal.invariant-loop-i

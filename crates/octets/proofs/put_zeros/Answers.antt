@@ -1,8 +1,8 @@
-use Prim.Native.Nat.{ℕ, ◌-◌}
+use Prim.Native.Nat.{ℕ}
 use mathlib.Core.Path.{sym}
 use native.Mathlib.Omega.{arith}
 use lib.ListN.{replicate, length-replicate, get_or-replicate}
-use Rattle.base.proofs.Fill.{Copied, copied_none, copied_more, copied_all}
+use Rattle.base.proofs.Fill.{copied_none, copied_more, copied_all}
 use Rattle.octets.proofs.put_zeros.Goals as goal
 
 pub loop-i-init : goal.loop-i-init

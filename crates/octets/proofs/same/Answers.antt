@@ -1,9 +1,6 @@
-use Prim.Native.Nat.{◌-◌, ◌≤◌}
-use mathlib.Core.Path.{◌≡◌, refl, sym, ap}
+use mathlib.Core.Path.{refl, sym, ap}
 use native.Mathlib.Omega.{arith}
-use lib.ListN.{length, take}
-use borrow.Author.Rules.{rules}
-use borrow.Author.Tests.{not-true, not-false}
+use lib.ListN.{length}
 use Rattle.base.proofs.Tests.{ne_eq_bytes}
 use Rattle.octets.proofs.SameLaws.{chunk_more, chunk_differs, rest_decides}
 use Rattle.octets.proofs.same.Goals as goal

@@ -1,8 +1,5 @@
 use Prim.Native.Nat.{◌-◌}
-use native.Mathlib.Omega.{arith}
-use borrow.Author.Rules.{rules}
-use borrow.Author.Tests.{eqb-true, eqb-false}
-use Rattle.octets.proofs.SameLaws.{Passed, passed_none, passed_more, passed_all}
+use Rattle.octets.proofs.SameLaws.{Passed}
 use Rattle.octets.proofs.same_chunk.Given as goal
 
 abbrev pub invariant-loop-i : goal.invariant-loop-i

@@ -1,9 +1,8 @@
-use Prim.Native.Nat.{◌-◌}
 use mathlib.Core.Path.{sym, ◌∙◌}
 use native.Mathlib.Omega.{arith}
-use lib.ListN.{length, drop_of_length-le}
+use lib.ListN.{drop_of_length-le}
 use Rattle.base.proofs.Tests.{yes_by, no_by}
-use Rattle.octets.proofs.SameLaws.{Onward, onward_none, onward_differs, onward_more}
+use Rattle.octets.proofs.SameLaws.{onward_none, onward_differs, onward_more}
 use Rattle.octets.proofs.same_from.Goals as goal
 
 pub loop-i-init : goal.loop-i-init

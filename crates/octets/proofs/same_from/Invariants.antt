@@ -1,9 +1,6 @@
 use Prim.Native.Nat.{◌-◌}
-use mathlib.Core.Path.{sym, ◌∙◌}
-use native.Mathlib.Omega.{arith}
-use lib.ListN.{length, drop_of_length-le}
-use Rattle.base.proofs.Tests.{yes_by, no_by}
-use Rattle.octets.proofs.SameLaws.{Onward, onward_none, onward_differs, onward_more}
+use lib.ListN.{length}
+use Rattle.octets.proofs.SameLaws.{Onward}
 use Rattle.octets.proofs.same_from.Given as goal
 
 abbrev pub invariant-loop-i : goal.invariant-loop-i
