@@ -35,7 +35,7 @@ right_take zero h = RightFrom.over refl
 right_take (suc k) (RightFrom.over e) = RightFrom.over (ap (take (512 * suc k)) e ∙ take-nil (512 * suc k))
 right_take {i} {t} {b} (suc k) (RightFrom.more {c} {cs} x r e s h) =
     let size : 512 * suc k ≡ length x + 512 * k = omega (arith, says_length i t x c s) in
-    RightFrom.more x (take (512 * k) r) (ap₂ take size e ∙ take-append-add x r (512 * k)) s (right_take k h)
+    RightFrom.more x (take (512 * k) r) (ap₂ take size e ∙ take-append-add x r (512 * k)) s (right_take {i = suc i} {t = noted c t} {b = r} {cs = cs} k h)
 
 pub room_take : (limit : ℕ) (cs : List Note) (t : List TableEntry) (k : ℕ) → RoomFrom limit t cs → RoomFrom limit t (take k cs)
 unfolding RoomFrom
