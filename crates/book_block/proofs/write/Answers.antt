@@ -21,26 +21,23 @@ returns-then-not-is_proper c =
     let s = c.is_sound.ensures.if_true c.if-not-is_sound.false in
     BlockWritten.faulty (inr (s, inl (c.is_proper.ensures.if_false c.if-not-is_proper.true, refl))) c.refused-then-not-is_proper.ensures refl
 
--- behind the first two tests: the table is sound, and the name is proper
-known : (f : goal.Else-not-is_proper) → let a = f.args in Sound most_names a.table.now × Proper a.name.now
-known f =
-    (f.is_sound.ensures.if_true f.if-not-is_sound.false, f.is_proper.ensures.if_true f.if-not-is_proper.false)
-
 pub returns-then-out-lt-SIZE : goal.returns-then-out-lt-SIZE
 returns-then-out-lt-SIZE c =
-    let k = known c.before.before in
-    BlockWritten.faulty (inr (k.0, inr (k.1, inl (λ long. omega arith, refl)))) c.refused-then-out-lt-SIZE.ensures refl
+    let sound = c.is_sound.ensures.if_true c.if-not-is_sound.false in
+    let proper = c.is_proper.ensures.if_true c.if-not-is_proper.false in
+    BlockWritten.faulty (inr (sound, inr (proper, inl (λ long. omega arith, refl)))) c.refused-then-out-lt-SIZE.ensures refl
 
 pub slice_bounds-put_name-end-2 : goal.slice_bounds-put_name-end-2
 slice_bounds-put_name-end-2 c = simp length-take (omega arith)
 
 pub put_name-requires : goal.put_name-requires
-put_name-requires c = let k = known c.before.before in (simp length-take (omega arith), k.0, k.1)
+put_name-requires c = (simp length-take (omega arith), c.is_sound.ensures.if_true c.if-not-is_sound.false, c.is_proper.ensures.if_true c.if-not-is_proper.false)
 
 pub returns : goal.returns
 returns c =
-    let k = known c.before.before.before.before.before in
+    let sound = c.is_sound.ensures.if_true c.if-not-is_sound.false in
+    let proper = c.is_proper.ensures.if_true c.if-not-is_proper.false in
     let out = c.args.out.now in
     let size : length c.put_name.new.block ≡ 512 = omega (arith, length-take-le 512 out (omega arith)) in
-    let block = c.put_name.ensures k.0.table k.0.slots in
-    BlockWritten.written (k.0, (k.1, (omega arith, tt))) k.0 refl (written_front 512 out _ _ (omega (arith, size, ap length block)) block)
+    let block = c.put_name.ensures sound.table sound.slots in
+    BlockWritten.written (sound, (proper, (omega arith, tt))) sound refl (written_front 512 out _ _ (omega (arith, size, ap length block)) block)
