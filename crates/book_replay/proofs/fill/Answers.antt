@@ -7,31 +7,26 @@ use borrow.Author.Rules.{rules}
 use Rattle.book_replay.proofs.WrittenLaws.{Written, slot_of, length_slot_of, piece_within, slot_cut, written_none, written_more, filled}
 use Rattle.book_replay.proofs.fill.Goals as goal
 
--- the block whose number is kept is in the book
-within : (d : goal.In-loop-j) → let a = d.args in 512 * get_or a.numbers.now d.loop-j.j 0 + 512 ≤ length a.book.now
-within d =
-    piece_within d.args.book.now d.args.numbers.now d.args.used d.requires.1 d.loop-j.j d.loop-j-test.true
-
 pub loop-j-init : goal.loop-j-init
 loop-j-init c = written_none slot_of 312 length_slot_of c.args.book.now c.args.numbers.now c.args.used c.requires.1 c.args.table.now
 
 pub overflow_cast-at : goal.overflow_cast-at
-overflow_cast-at c = omega (arith, within c.before)
+overflow_cast-at c = omega (arith, piece_within _ _ _ c.requires.1 _ c.loop-j-test.true)
 
 pub overflow_mul-at : goal.overflow_mul-at
-overflow_mul-at c = omega (arith, within c.before)
+overflow_mul-at c = omega (arith, piece_within _ _ _ c.requires.1 _ c.loop-j-test.true)
 
 pub overflow_add-at : goal.overflow_add-at
-overflow_add-at c = omega (arith, within c.before)
+overflow_add-at c = omega (arith, piece_within _ _ _ c.requires.1 _ c.loop-j-test.true)
 
 pub overflow_add-at-in-loop-j : goal.overflow_add-at-in-loop-j
-overflow_add-at-in-loop-j c = omega (arith, within c.before.before)
+overflow_add-at-in-loop-j c = omega (arith, piece_within _ _ _ c.requires.1 _ c.loop-j-test.true)
 
 pub slice_bounds-put-end : goal.slice_bounds-put-end
-slice_bounds-put-end c = omega (arith, within c.before.before)
+slice_bounds-put-end c = omega (arith, piece_within _ _ _ c.requires.1 _ c.loop-j-test.true)
 
 pub put-requires : goal.put-requires
-put-requires c = let w = within c.before.before.before in let i = c.loop-j.invariant in simp (length-take, length-drop) (omega arith)
+put-requires c = let w = piece_within _ _ _ c.requires.1 _ c.loop-j-test.true in let i = c.loop-j.invariant in simp (length-take, length-drop) (omega arith)
 
 pub loop-j-preserved : goal.loop-j-preserved
 loop-j-preserved c = let l = c.loop-j in
