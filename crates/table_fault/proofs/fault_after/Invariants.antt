@@ -12,7 +12,7 @@ use Rattle.table_fault.proofs.GivenLaws.{end_given, fault_given, nothing_given, 
 use Rattle.table_fault.proofs.fault_after.Given as goal
 
 abbrev pub invariant-loop-at : goal.invariant-loop-at
-invariant-loop-at l = (rs : List ResourceRecord) (l : Last) → Gives l.text l.from rs l → (qs : List ResourceRecord) × Gives l.text l.at qs l
+invariant-loop-at l = (rs : List ResourceRecord) (last : Last) → Gives l.text l.from rs last → (qs : List ResourceRecord) × Gives l.text l.at qs last
 
 abbrev pub decreases-loop-at : goal.decreases-loop-at
 decreases-loop-at l = length l.text - l.at

@@ -1,10 +1,10 @@
 use Prim.Native.Nat.{◌-◌}
 use mathlib.Core.Path.{sym, ◌∙◌}
-use mathlib.Core.Logic.{⊎_elim}
 use native.Mathlib.Omega.{arith}
 use borrow.Author.Rules.{rules}
 use Rattle.table_fault.proofs.KeptLaws.{Passed, passed_none, passed_mark, passed_owner, kept_within, is_there, is_nowhere}
 use Rattle.table_fault.proofs.index_of.Goals as goal
+use Rattle.table_fault.proofs.index_of.Goals.{then-marks-i+else-is_owner, else-marks-i}
 
 pub loop-i-init : goal.loop-i-init
 loop-i-init c = passed_none _ _ _ _ _
@@ -28,10 +28,10 @@ pub loop-i-preserved : goal.loop-i-preserved
 loop-i-preserved c =
     let l = c.loop-i in
     let more = c.loop-i-test.true in
-    ⊎_elim
-    (λ w. passed_owner _ _ _ _ _ l.i l.invariant c.requires.3 (w.0.taken ∙ c.requires.4) w.2.result w.2.ensures more w.3.left)
-    (λ w. passed_mark _ _ _ _ _ l.i l.invariant more (λ e. w.left (e ∙ sym c.requires.4)))
-    c.if-marks-i.branch
+    elim c.if-marks-i.branch [
+      then-marks-i+else-is_owner w ↦ passed_owner _ _ _ _ _ l.i l.invariant c.requires.3 (w.if-marks-i.true ∙ c.requires.4) w.is_owner.result w.is_owner.ensures more w.if-is_owner.false
+    | else-marks-i w ↦ passed_mark _ _ _ _ _ l.i l.invariant more (λ e. w.if-marks-i.false (e ∙ sym c.requires.4))
+    ]
 
 pub returns : goal.returns
 returns c = is_nowhere _ _ _ _ _ c.loop-i.i c.loop-i.invariant c.loop-i-test.false

@@ -17,7 +17,7 @@ use Rattle.table_fault.proofs.TurnLaws.{swept_still, swept_known, swept_new, swe
 use Rattle.table_fault.proofs.sweep.Given as goal
 
 abbrev pub invariant-loop-at : goal.invariant-loop-at
-invariant-loop-at l = (rs : List ResourceRecord) (l : Last) → Gives l.text l.from rs l → SweptTo l.text l.from l l.initial.slots rs l.starts l.marks l.types l.used l.rest l.at l.slots l.count
+invariant-loop-at l = (rs : List ResourceRecord) (last : Last) → Gives l.text l.from rs last → SweptTo l.text l.from last l.initial.slots rs l.starts l.marks l.types l.used l.rest l.at l.slots l.count
 
 abbrev pub decreases-loop-at : goal.decreases-loop-at
 decreases-loop-at l = length l.text - l.at

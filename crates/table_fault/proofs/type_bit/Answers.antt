@@ -1,4 +1,5 @@
 use mathlib.Core.Path.{sym, ap}
+use native.Mathlib.Omega.{arith}
 use Rattle.table_fault.specs.Sweeping.{type_bit}
 use Rattle.table_fault.proofs.KeptLaws.{other_bit}
 use Rattle.table_fault.proofs.type_bit.Goals as goal
@@ -10,4 +11,4 @@ pub returns-in-28 : goal.returns-in-28
 returns-in-28 c = sym (ap type_bit c.in-28.is)
 
 pub returns-in_default : goal.returns-in_default
-returns-in_default c = other_bit c.args.rtype c.in_default.in_default-own.rest.0.1 c.in_default.in_default-own.rest.1
+returns-in_default c = other_bit c.args.rtype (omega arith) (omega arith)
