@@ -63,10 +63,10 @@ module _ (t : List ℕ) where
         Loads.faulty (gives_accepted h.gives) (fault_after (record_tests most_names rs) (area_tests most_names area) 13 all (inl (λ long. omega arith, refl))) e refl
 
     -- the table has the bytes that were lent, and what stands behind them stays
-    table_size : 0 + length (table_bytes most_names (table_of rs)) ≡ table_size
-    table_size = omega (arith, length_table most_names _ _ (table_is rs (given_well_formed h.gives) most_names h.room))
+    table_size_lem : 0 + length (table_bytes most_names (table_of rs)) ≡ table_size
+    table_size_lem = omega (arith, length_table most_names _ _ (table_is rs (given_well_formed h.gives) most_names h.room))
 
     pub loads_all : (area s : List ℕ) → table_size ≤ length area → s ≡ table_bytes most_names (table_of rs) → Loads limit most_names t area (TheVariants.Accepted 0) (s ++ drop table_size area)
     unfolding overlay
     loads_all area s long filled =
-        Loads.loaded (gives_accepted h.gives) (hold_both (record_tests most_names rs) (area_tests most_names area) all (long, tt)) refl (λ i. filled i ++ drop (sym table_size i) area)
+        Loads.loaded (gives_accepted h.gives) (hold_both (record_tests most_names rs) (area_tests most_names area) all (long, tt)) refl (λ i. filled i ++ drop (sym table_size_lem i) area)
