@@ -1,15 +1,20 @@
 use Prim.Native.Nat.{ℕ, ◌+◌, ◌-◌, ◌≤◌}
+use mathlib.Core.Bool.{Bool, true}
 use mathlib.Core.Path.{◌≡◌, refl, sym, ap, ◌∙◌}
-use lib.ListN.{length}
+use mathlib.Core.List.{List}
 use native.Mathlib.Omega.{arith}
-use borrow.Author.Tests.{not-true, not-false}
+use lib.ListN.{length, take, drop}
 use Rattle.name.proofs.WireLaws.{proper_some}
+use Rattle.entry.specs.Held.{type_number}
+use Rattle.slots.specs.Fields.{in_field, there}
+use Rattle.slots.specs.Promise.{OfSlot}
+use Rattle.slots.specs.Sizes.{field_at}
+use Rattle.slots.specs.declared.Rtype.{Rtype}
 use Rattle.slots.proofs.EffectLaws.{slot_of_lem, data_first}
 use Rattle.writer.specs.Parts.{rest_part}
-use Rattle.table_write.specs.Promise.{field_text}
+use Rattle.table_write.specs.Promise.{type_of, field_text, SlotFits}
 use Rattle.table_write.proofs.TextLaws.{field_none}
 use Rattle.table_write.proofs.WriteLaws.{puts_none, line_size, line_put, fits_slot}
-use borrow.Author.Rules.{rules}
 use Rattle.table_write.proofs.put_field.Goals as goal
 
 pub has-requires : goal.has-requires
@@ -26,32 +31,28 @@ name_of-name-requires c = fits_slot c.requires
 pub data_from-bytes-requires : goal.data_from-bytes-requires
 data_from-bytes-requires c = fits_slot c.requires
 
--- how long the line is, from the place where its parts are known
-sized : (d : goal.After-data_from-bytes)
-    → length (field_text d.args.rtype d.requires.entry)
-    ≡ length d.name_of-name.result.now - 1 + length (rest_part d.rtype_number-number.result d.data_from-bytes.result.now)
-sized d =
-    let f = d.requires in
-    let held = sym (d.has.ensures f.entry f.well_formed f.form) ∙ d.if-not-has.false in
-    line_size d.args.rtype f.entry d.data_from-bytes.result.now (d.name_of-name.ensures f.entry f.well_formed f.form)
-    d.rtype_number-number.ensures held (data_first (slot_of_lem f.well_formed f.form) d.args.rtype d.data_from-bytes.ensures)
+-- a field that is there, by what the calls before promise: the name n and the number v of its type, and 35 bytes bs that begin with its data
+module _ (k : Rtype) {s to : List ℕ} {at : ℕ} (f : SlotFits (field_text k) s at to) where
+  -- how long the line is
+  sized : {h : Bool} {n bs : List ℕ} {v : ℕ} → OfSlot s (λ e. h ≡ there (in_field k e)) → h ≡ true → OfSlot s (λ e. n ≡ e.name) → v ≡ type_number (type_of k)
+      → bs ≡ take 35 (drop (field_at k) s) → length (field_text k f.entry) ≡ length n - 1 + length (rest_part v bs)
+  sized {bs = bs} has held name type from =
+      line_size k f.entry bs (name f.entry f.well_formed f.form) type (sym (has f.entry f.well_formed f.form) ∙ held) (data_first (slot_of_lem f.well_formed f.form) k from)
 
--- a name has a byte or more
-named : (n : goal.After-name_of-name) → 1 ≤ length n.name_of-name.result.now
-named n =
-    let f = n.requires in
-    omega (arith, ap length (n.name_of-name.ensures f.entry f.well_formed f.form), proper_some f.entry.name f.well_formed.proper)
+  -- a name has a byte or more
+  named : {n : List ℕ} → OfSlot s (λ e. n ≡ e.name) → 1 ≤ length n
+  named name = omega (arith, ap length (name f.entry f.well_formed f.form), proper_some f.entry.name f.well_formed.proper)
 
 pub put_text-requires : goal.put_text-requires
 put_text-requires c =
-    omega (arith, c.requires.room, sized c.before, named c.before.before.before)
+    omega (arith, c.requires.room, sized c.args.rtype c.requires c.has.ensures c.if-not-has.false c.name_of-name.ensures c.rtype_number-number.ensures c.data_from-bytes.ensures, named c.args.rtype c.requires c.name_of-name.ensures)
 
 pub overflow_sub-rest : goal.overflow_sub-rest
-overflow_sub-rest c = named c.before.before.before.before.before.before
+overflow_sub-rest c = named c.args.rtype c.requires c.name_of-name.ensures
 
 pub put_rest-requires : goal.put_rest-requires
 put_rest-requires c =
-    let f = c.requires in record { rdata_len = (data_first (slot_of_lem f.well_formed f.form) c.args.rtype c.data_from-bytes.ensures).0; rdata_in_bounds = omega (arith, f.room, sized c.before.before.before.before.before, c.put_text.auto.to) }
+    let f = c.requires in record { rdata_len = (data_first (slot_of_lem f.well_formed f.form) c.args.rtype c.data_from-bytes.ensures).0; rdata_in_bounds = omega (arith, f.room, sized c.args.rtype c.requires c.has.ensures c.if-not-has.false c.name_of-name.ensures c.rtype_number-number.ensures c.data_from-bytes.ensures, c.put_text.auto.to) }
 
 pub rest_length-requires : goal.rest_length-requires
 rest_length-requires c =
@@ -60,7 +61,7 @@ rest_length-requires c =
 
 pub overflow_add-result : goal.overflow_add-result
 overflow_add-result c =
-    omega (arith, c.requires.room, sized c.before.before.before.before.before.before.before.before.before, c.rest_length.ensures)
+    omega (arith, c.requires.room, sized c.args.rtype c.requires c.has.ensures c.if-not-has.false c.name_of-name.ensures c.rtype_number-number.ensures c.data_from-bytes.ensures, c.rest_length.ensures)
 
 pub returns : goal.returns
 returns c =
