@@ -10,7 +10,7 @@ returns-then-n-eq0 c = alike_nothing _ _ _ c.if-n-eq0.true
 
 pub slice_bounds-earlier-end : goal.slice_bounds-earlier-end
 slice_bounds-earlier-end c =
-    let owner : length c.args.t3.owner ≡ 255 = search rules in
+    let owner : length c.args.place.owner ≡ 255 = search rules in
     simp length-take (omega arith)
 
 pub returns : goal.returns

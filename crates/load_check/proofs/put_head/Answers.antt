@@ -11,12 +11,12 @@ use Rattle.load_check.proofs.put_head.Goals as goal
 
 pub slice_bounds-put_text-end : goal.slice_bounds-put_text-end
 slice_bounds-put_text-end c =
-    let owner : length c.args.t2.owner ≡ 255 = search rules in
+    let owner : length c.args.place.owner ≡ 255 = search rules in
     simp length-take (omega arith)
 
 pub put_text-requires : goal.put_text-requires
 put_text-requires c =
-    let p = c.args.t2 in
+    let p = c.args.place in
     let owner : length p.owner ≡ 255 = search rules in
     let within : p.owner_len ≤ length p.owner = omega arith in
     omega (arith, c.requires.longest_head_in_bounds, length-take-le p.owner_len p.owner within)
@@ -24,8 +24,8 @@ put_text-requires c =
 pub overflow_sub-n : goal.overflow_sub-n
 unfolding Writable
 overflow_sub-n c =
-    omega (arith, (place_occupied c.args.t2 c.requires.writable.0 c.requires.writable.1).some)
+    omega (arith, (place_occupied c.args.place c.requires.writable.0 c.requires.writable.1).some)
 
 pub returns : goal.returns
 returns c = λ rr h.
-    place_head c.args.t2 rr h _ _ _ _ c.requires.longest_head_in_bounds c.put_text.ensures c.put_type.ensures
+    place_head c.args.place rr h _ _ _ _ c.requires.longest_head_in_bounds c.put_text.ensures c.put_type.ensures

@@ -1,4 +1,4 @@
-use borrow.Author.Rules.{rules}
+use native.Mathlib.Omega.{arith}
 use Rattle.load_check.proofs.HeadLaws.{put_a, put_aaaa, put_dhcid}
 use Rattle.load_check.proofs.put_type.Goals as goal
 
@@ -12,4 +12,4 @@ returns-in-28 c =
 
 pub returns-in_default : goal.returns-in_default
 returns-in_default c =
-    put_dhcid c.args.rtype c.in_default.in_default-own.rest.0.1 c.in_default.in_default-own.rest.1 c.args.at _ _ c.requires c.put-in_default.ensures
+    put_dhcid c.args.rtype (omega arith) (omega arith) c.args.at _ _ c.requires c.put-in_default.ensures
