@@ -7,7 +7,7 @@ use Rattle.listing_check.proofs.BatchLaws.{SoFar, next_on, so_far_none, so_far_m
 use Rattle.listing_check.proofs.fill.Given as goal
 
 abbrev pub invariant-loop-next : goal.invariant-loop-next
-invariant-loop-next l = (length l.out ≡ length l.initial.out) × SoFar l.text l.at l.initial.out l.out (record { l.next = l.next; l.used = l.used })
+invariant-loop-next l = (length l.out ≡ length l.initial.out) × SoFar l.text l.at l.initial.out l.out (record { next = l.next; used = l.used })
 
 abbrev pub decreases-loop-next : goal.decreases-loop-next
 decreases-loop-next l = length l.text - l.next
