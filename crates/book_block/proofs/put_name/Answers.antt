@@ -15,7 +15,7 @@ use Rattle.book_block.proofs.WriteLaws.{Found, found_at, note_stands, note_gone}
 use Rattle.book_block.proofs.put_name.Goals as goal
 
 pub returns-then-i-count : goal.returns-then-i-count
-returns-then-i-count c =
+returns-then-i-count c = λ t h.
     let n = canonical c.args.name.now in
     let none_there = not_standing n t (sym (c.find-i.ensures t h) ∙ c.if-i-count.true ∙ c.count.ensures t h) in
     c.put_gone.ensures ∙ ap (block_bytes c.args.number) (sym (note_gone n t none_there))

@@ -7,5 +7,5 @@ pub put-requires : goal.put-requires
 put-requires c = omega (arith, slot_long c.args.slot.now c.requires.1)
 
 pub returns : goal.returns
-returns c =
+returns c = λ e well_formed same.
     stands_by c.args.block.now _ _ _ c.args.number c.requires.0 (slot_long c.args.slot.now c.requires.1) c.put.ensures c.frame.ensures e same
