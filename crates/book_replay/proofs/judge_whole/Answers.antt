@@ -10,24 +10,24 @@ pub returns-then-judged-ne-TABLE_NOT_SOUND : goal.returns-then-judged-ne-TABLE_N
 returns-then-judged-ne-TABLE_NOT_SOUND c =
     let book = c.args.book.now in
     let j = c.judge-judged in
-    whole_judged 64 book j.new.1.0 j.result j.ensures c.if-book-ne0.false c.if-judged-ne-TABLE_NOT_SOUND.true
+    whole_judged 64 book j.new.numbers j.result j.ensures c.if-book-ne0.false c.if-judged-ne-TABLE_NOT_SOUND.true
 
 pub judge_beyond-later-requires : goal.judge_beyond-later-requires
 judge_beyond-later-requires c =
     let book = c.args.book.now in
     let j = c.judge-judged in
-    (omega (arith, j.ensures.within), right_so_far 64 book j.new.1.0 j.result j.ensures)
+    (omega (arith, j.ensures.within), right_so_far 64 book j.new.numbers j.result j.ensures)
 
 pub returns-then-later-ne0 : goal.returns-then-later-ne0
 returns-then-later-ne0 c =
     let book = c.args.book.now in
     let j = c.judge-judged in
     let rest = c.judge_beyond-later in
-    whole_bad_later 64 book j.new.1.0 j.result j.ensures c.if-book-ne0.false c.if-judged-ne-TABLE_NOT_SOUND.false rest.result rest.ensures c.if-later-ne0.true
+    whole_bad_later 64 book j.new.numbers j.result j.ensures c.if-book-ne0.false c.if-judged-ne-TABLE_NOT_SOUND.false rest.result rest.ensures c.if-later-ne0.true
 
 pub returns-else-later-ne0 : goal.returns-else-later-ne0
 returns-else-later-ne0 c =
     let book = c.args.book.now in
     let j = c.judge-judged in
     let rest = c.judge_beyond-later in
-    whole_full 64 book j.new.1.0 j.result j.ensures c.if-book-ne0.false c.if-judged-ne-TABLE_NOT_SOUND.false rest.result rest.ensures c.if-later-ne0.false
+    whole_full 64 book j.new.numbers j.result j.ensures c.if-book-ne0.false c.if-judged-ne-TABLE_NOT_SOUND.false rest.result rest.ensures c.if-later-ne0.false

@@ -21,7 +21,7 @@ pub fill-requires : goal.fill-requires
 fill-requires c =
     let book = c.args.book.now in
     let j = c.judge_whole-judged in
-    let numbers = j.new.1.0 in
+    let numbers = j.new.numbers in
     let f = j.ensures.fine c.if-fault-ne0.false in
     let k = kept_names book numbers j.result j.ensures c.if-fault-ne0.false in
     (simp length-take (omega arith), k)
@@ -30,7 +30,7 @@ pub returns : goal.returns
 returns c =
     let book = c.args.book.now in
     let j = c.judge_whole-judged in
-    let numbers = j.new.1.0 in
+    let numbers = j.new.numbers in
     let f = j.ensures.fine c.if-fault-ne0.false in
     let k = kept_names book numbers j.result j.ensures c.if-fault-ne0.false in
     let t = after f.0.notes in

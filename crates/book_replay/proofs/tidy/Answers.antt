@@ -18,7 +18,7 @@ pub returns-then-out-size : goal.returns-then-out-size
 returns-then-out-size c =
     let book = c.args.book.now in
     let j = c.judge_whole-judged in
-    let numbers = j.new.1.0 in
+    let numbers = j.new.numbers in
     let f = j.ensures.fine c.if-fault-ne0.false in
     let k = kept_names book numbers j.result j.ensures c.if-fault-ne0.false in
     Tidies.short f.0 (omega (arith, tidied_long book numbers j.result.used k (after f.0.notes) f.3)) c.refused-then-out-size.ensures refl
@@ -27,7 +27,7 @@ pub put_blocks-requires : goal.put_blocks-requires
 put_blocks-requires c =
     let book = c.args.book.now in
     let j = c.judge_whole-judged in
-    let numbers = j.new.1.0 in
+    let numbers = j.new.numbers in
     let f = j.ensures.fine c.if-fault-ne0.false in
     let k = kept_names book numbers j.result j.ensures c.if-fault-ne0.false in
     (omega arith, k)
@@ -39,7 +39,7 @@ pub returns : goal.returns
 returns c =
     let book = c.args.book.now in
     let j = c.judge_whole-judged in
-    let numbers = j.new.1.0 in
+    let numbers = j.new.numbers in
     let f = j.ensures.fine c.if-fault-ne0.false in
     let k = kept_names book numbers j.result j.ensures c.if-fault-ne0.false in
     let size = tidied_long book numbers j.result.used k (after f.0.notes) f.3 in
