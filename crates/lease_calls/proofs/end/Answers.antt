@@ -36,5 +36,5 @@ returns c =
     let s = all.1.0.0 in
     let u = all.1.0.1 in
     planned_call most_names most_addresses (sides_tests most_names most_addresses _ a.table.now a.reverse.now a.name.now a.dhcid.now a.family a.address.now) a.table.now a.reverse.now _ _ _ _ (hold_as 12 known.if_true (passes _ known) (both_tests most_names most_addresses a.table.now a.reverse.now a.name.now a.dhcid.now a.family a.address.now) all) s u
-    (subst (λ f. CarriedOut most_names most_addresses (end_plan (canonical a.name.now) a.dhcid.now f a.address.now) s.table u.names c.end_steps.result c.end_steps.new.table c.end_steps.new.reverse.0)
+    (subst (λ f. CarriedOut most_names most_addresses (end_plan (canonical a.name.now) a.dhcid.now f a.address.now) s.table u.names c.end_steps.result c.end_steps.new.table c.end_steps.new.reverse)
     c.family_of.ensures (c.end_steps.ensures s.table u.names s.slots u.slots))

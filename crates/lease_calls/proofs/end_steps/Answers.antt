@@ -1,11 +1,11 @@
 use mathlib.Core.Path.{sym, ◌∙◌}
-use mathlib.Core.Logic.{⊎_elim}
 use Rattle.name.specs.Name.{canonical}
 use Rattle.slots.specs.Sizes.{most_names}
 use Rattle.table.proofs.RemovalLaws.{can_carry_out, carried_out, refused_outcome, accepted_outcome}
 use Rattle.reverse.specs.Sizes.{most_addresses}
 use Rattle.lease_calls.proofs.StepLaws.{address_not_refused, name_not_refused, end_refused, end_carried_out}
 use borrow.Author.Rules.{rules}
+use Rattle.lease_calls.proofs.end_steps.Goals.{in-Address, in-Name}
 use Rattle.lease_calls.proofs.end_steps.Goals as goal
 
 pub returns-in-Refused : goal.returns-in-Refused
@@ -24,9 +24,8 @@ carry_out-requires c =
 pub returns : goal.returns
 returns c = λ t rs h g.
     let a = c.args in
-    let came = c.match-removal.branch in
     let n = canonical a.name.now in
     let is = c.removal_for-removal.ensures t h in
-    let out = accepted_outcome t n a.dhcid.now a.family a.address.now _ is (λ number refused. ⊎_elim (λ w. address_not_refused _ number (sym w.1.given.1 ∙ refused)) (λ w. name_not_refused _ number (sym w.1.given.1 ∙ refused)) came) in
+    let out = accepted_outcome t n a.dhcid.now a.family a.address.now _ is (λ number refused. elim c.match-removal.branch [ in-Address w ↦ address_not_refused _ number (sym w.in-Address.is ∙ refused) | in-Name w ↦ name_not_refused _ number (sym w.in-Name.is ∙ refused) ]) in
     end_carried_out most_names most_addresses n a.dhcid.now a.family a.address.now t rs _ _ h g out.0 c.carry_out.result _ _ out.1
     (carried_out t n a.dhcid.now a.family a.address.now most_names _ h _ is _ _ c.carry_out.ensures) (c.take_out.ensures rs g)
