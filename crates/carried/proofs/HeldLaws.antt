@@ -77,3 +77,7 @@ same_entry x e c h k =
 pub same_held : (z : Zone) (t u : List TableEntry) → Holds z t → Holds z u → t ≡ u
 same_held [] [] [] Pairwise.none Pairwise.none = refl
 same_held (x ∷ z) (e ∷ t) (c ∷ u) (Pairwise.more h hs) (Pairwise.more k ks) = ap₂ ◌∷◌ (same_entry x e c h k) (same_held z t u hs ks)
+same_held [] [] (c ∷ u) _ k = elim k [ ]
+same_held [] (e ∷ t) u h _ = elim h [ ]
+same_held (x ∷ z) [] u h _ = elim h [ ]
+same_held (x ∷ z) (e ∷ t) [] _ k = elim k [ ]

@@ -95,10 +95,10 @@ module _ (served : List ℕ) (z : Zone) where
     not_in_use = rw (inside, lower)
 
     -- 2.4.3
-    no_set : (f : Family) → prerequisite_code served z (no_set n (address_record f)) ≡ cond (is_empty (set_at n (address_record f) z)) done set_stands
+    no_set_lem : (f : Family) → prerequisite_code served z (no_set n (address_record f)) ≡ cond (is_empty (set_at n (address_record f) z)) done set_stands
     unfolding prerequisite_code none_code
-    no_set V4 = rw (inside, lower)
-    no_set V6 = rw (inside, lower)
+    no_set_lem V4 = rw (inside, lower)
+    no_set_lem V6 = rw (inside, lower)
 
     -- 2.4.2: gone through, and compared
     gone_through : (k : ℕ) (d : List ℕ) → prerequisite_code served z (set_is n k d) ≡ done
@@ -135,15 +135,15 @@ module _ (served : List ℕ) (z : Zone) where
       remove_second_a s =
           refused_by (set_is n type_dhcid d ∷ freed) set_stands
           (first_done _ (set_is n type_dhcid d) freed (gone_through type_dhcid d)
-          ∙ first_ends _ (no_set n type_a) (no_set n type_aaaa ∷ []) set_stands (no_set V4 ∙ ap (λ (b : Bool). cond b done set_stands) s) refl) refl
+          ∙ first_ends _ (no_set n type_a) (no_set n type_aaaa ∷ []) set_stands (no_set_lem V4 ∙ ap (λ (b : Bool). cond b done set_stands) s) refl) refl
 
       pub remove_second_aaaa : is_empty (set_at n type_a z) ≡ true → is_empty (set_at n type_aaaa z) ≡ false
           → prerequisites_code served z (set_is n type_dhcid d ∷ freed) ≡ set_stands
       remove_second_aaaa s u =
           refused_by (set_is n type_dhcid d ∷ freed) set_stands
           (first_done _ (set_is n type_dhcid d) freed (gone_through type_dhcid d)
-          ∙ first_done _ (no_set n type_a) (no_set n type_aaaa ∷ []) (no_set V4 ∙ ap (λ (b : Bool). cond b done set_stands) s)
-          ∙ first_ends _ (no_set n type_aaaa) [] set_stands (no_set V6 ∙ ap (λ (b : Bool). cond b done set_stands) u) refl) refl
+          ∙ first_done _ (no_set n type_a) (no_set n type_aaaa ∷ []) (no_set_lem V4 ∙ ap (λ (b : Bool). cond b done set_stands) s)
+          ∙ first_ends _ (no_set n type_aaaa) [] set_stands (no_set_lem V6 ∙ ap (λ (b : Bool). cond b done set_stands) u) refl) refl
 
     module _ (d : List ℕ) (h : Option (List ℕ)) (held : set_at n type_dhcid z ≡ listed h) where
       second_wants : set_in n type_dhcid (set_is n type_dhcid d ∷ []) ≡ d ∷ []
@@ -187,8 +187,8 @@ module _ (served : List ℕ) (z : Zone) where
           let ps : List ResourceRecord = set_is n type_dhcid d ∷ freed in
           decided_by ps (is_address h d)
           (first_done _ (set_is n type_dhcid d) freed (gone_through type_dhcid d)
-          ∙ first_done _ (no_set n type_a) (no_set n type_aaaa ∷ []) (no_set V4 ∙ ap (λ (b : Bool). cond b done set_stands) s)
-          ∙ first_done _ (no_set n type_aaaa) [] (no_set V6 ∙ ap (λ (b : Bool). cond b done set_stands) u) ∙ no_code _)
+          ∙ first_done _ (no_set n type_a) (no_set n type_aaaa ∷ []) (no_set_lem V4 ∙ ap (λ (b : Bool). cond b done set_stands) s)
+          ∙ first_done _ (no_set n type_aaaa) [] (no_set_lem V6 ∙ ap (λ (b : Bool). cond b done set_stands) u) ∙ no_code _)
           (compared ps freed type_dhcid d h last_wants held
           ∙ ap (λ (b : Bool). is_address h d && b) (passed_over ps (no_set n type_aaaa ∷ []) type_a ∙ passed_over ps [] type_aaaa ∙ all_compared ps) ∙ and_true (is_address h d))
 
