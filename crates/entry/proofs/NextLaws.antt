@@ -1,18 +1,13 @@
 -- What comes next in an entry, by cases, for the functions that read on. Assumes nothing.
 use Prim.Native.Nat.{ℕ, ◌-◌}
 use mathlib.Core.Bool.{Bool}
-use mathlib.Core.Path.{◌≡◌, ap, subst}
+use mathlib.Core.Path.{◌≡◌, refl, ap, subst}
 use mathlib.Core.List.{List, [], ◌∷◌}
-use mathlib.Core.Logic.{⊎_elim}
-use native.Mathlib.Omega.{arith}
-use types.Run.{OneOf}
-use denote.Enum.Declared.{tag_of}
 use lib.ListN.{take, drop}
 use Rattle.grammar.specs.Scan.{plain, at_end, at_fault, Laid, scan}
 use Rattle.words.specs.NextIs.{depth_of, WordAt, LineAt, NextIs}
 use Rattle.words.specs.declared.Next.{Next}
 use Rattle.words.specs.declared.Next.TheVariants
-use Rattle.words.specs.contracts.Next.{the_type}
 use Rattle.entry.specs.Parts.{words_at}
 
 module _ (t : List ℕ) (at : ℕ) (d : Bool) where
@@ -29,8 +24,8 @@ module _ (t : List ℕ) (at : ℕ) (d : Bool) where
   fault_is r h e = subst (NextIs t at d) e h
 
   -- of anything but a word, the entry has no words
-  pub no_word : (r : Next) → OneOf (1 ∷ 2 ∷ 3 ∷ []) (tag_of the_type r) → NextIs t at d r → words_at t at d ≡ []
-  no_word (TheVariants.Word start end d') e h = absurd (⊎_elim (λ z. omega arith) (⊎_elim (λ z. omega arith) (λ z. omega arith)) e)
+  pub no_word : (r : Next) → ((start end : ℕ) (d' : Bool) → r ≡ TheVariants.Word start end d' → ⊥) → NextIs t at d r → words_at t at d ≡ []
+  no_word (TheVariants.Word start end d') e h = absurd (e start end d' refl)
   no_word (TheVariants.Line next) e h = ap (λ (l : Laid). l.words) h.ends
   no_word TheVariants.End e h = ap (λ (l : Laid). l.words) h
   no_word TheVariants.Fault e h = ap (λ (l : Laid). l.words) h

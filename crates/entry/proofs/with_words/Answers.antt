@@ -47,7 +47,7 @@ returns-then-not-data c =
     let first = first_byte t a.at (omega (arith, w.from, w.some, w.within)) ∙ sym c.is_word_byte.ensures ∙ c.if-not-is_word_byte.false in
     let h = c.read-head in
     let r = c.read-data in
-    c.faulty-then-not-data.ensures ∙ bad_data t a.at a.start a.end a.inside w n.0 first n.1 h.result h.ensures c.if-head-eq-NO_TYPE.false r.result r.ensures c.if-not-data.true
+    c.faulty-then-not-data.ensures ∙ bad_data t a.at a.start a.end a.inside w n.0 first n.1 h.result h.ensures c.if-head-eq-NO_TYPE.false r.result r.ensures (not-true _ c.if-not-data.true)
 
 pub faulty-requires-in-Word : goal.faulty-requires-in-Word
 faulty-requires-in-Word c =
@@ -92,7 +92,7 @@ returns-in-Line c =
     let h = c.read-head in
     let r = c.read-data in
     let x = c.next_word in
-    good_to_line t a.at a.start a.end a.inside w n.0 first n.1 h.result h.ensures c.if-head-eq-NO_TYPE.false r.result r.ensures o.result.bytes r.result.bytes o.result.len n.2 n.3 c.if-not-data.false refl _ (line_is t r.result.at r.result.inside x.result x.ensures c.in-Line.is)
+    good_to_line t a.at a.start a.end a.inside w n.0 first n.1 h.result h.ensures c.if-head-eq-NO_TYPE.false r.result r.ensures o.result.bytes r.result.bytes o.result.len n.2 n.3 (not-false _ c.if-not-data.false) refl _ (line_is t r.result.at r.result.inside x.result x.ensures c.in-Line.is)
 
 pub returns-in-End : goal.returns-in-End
 returns-in-End c =
@@ -105,4 +105,4 @@ returns-in-End c =
     let h = c.read-head in
     let r = c.read-data in
     let x = c.next_word in
-    good_to_end t a.at a.start a.end a.inside w n.0 first n.1 h.result h.ensures c.if-head-eq-NO_TYPE.false r.result r.ensures o.result.bytes r.result.bytes o.result.len n.2 n.3 c.if-not-data.false refl (end_is t r.result.at r.result.inside x.result x.ensures c.in-End.is)
+    good_to_end t a.at a.start a.end a.inside w n.0 first n.1 h.result h.ensures c.if-head-eq-NO_TYPE.false r.result r.ensures o.result.bytes r.result.bytes o.result.len n.2 n.3 (not-false _ c.if-not-data.false) refl (end_is t r.result.at r.result.inside x.result x.ensures c.in-End.is)

@@ -51,4 +51,4 @@ unfolding zero_filled
 returns-in_default c =
     let a = c.args in
     let n = c.next_word in
-    no_address a.text.now a.at a.inside a.rtype c.requires (no_word a.text.now a.at a.inside n.result c.in_default.in_default-own.keys2 n.ensures)
+    no_address a.text.now a.at a.inside a.rtype c.requires (no_word a.text.now a.at a.inside n.result c.in_default.not-Word n.ensures)

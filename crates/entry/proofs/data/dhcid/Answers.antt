@@ -56,5 +56,5 @@ returns-in_default c =
     let n = c.next_word in
     let long : length c.finish-read.result.bytes ≡ 35 = search rules in
     all_read t a.at a.inside c.loop-start.words c.loop-start.i c.loop-start.within c.loop-start.invariant
-    (no_word t c.loop-start.i c.loop-start.within n.result c.in_default.in_default-own.keys2 n.ensures) c.finish-read.result.found c.finish-read.result.bytes long
+    (no_word t c.loop-start.i c.loop-start.within n.result c.in_default.not-Word n.ensures) c.finish-read.result.found c.finish-read.result.bytes long
     c.finish-read.ensures

@@ -26,4 +26,4 @@ pub returns-in_default : goal.returns-in_default
 returns-in_default c =
     let a = c.args in
     let n = c.next_word in
-    head_none a.text.now a.at a.inside typed refl c.requires (no_word a.text.now a.at a.inside n.result c.in_default.in_default-own.keys2 n.ensures)
+    head_none a.text.now a.at a.inside typed refl c.requires (no_word a.text.now a.at a.inside n.result c.in_default.not-Word n.ensures)

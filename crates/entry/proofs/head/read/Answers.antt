@@ -51,4 +51,4 @@ pub returns-in_default : goal.returns-in_default
 returns-in_default c =
     let a = c.args in
     let n = c.next_word in
-    head_none a.text.now a.at a.inside head_of none_headed c.requires (no_word a.text.now a.at a.inside n.result c.in_default.in_default-own.keys2 n.ensures)
+    head_none a.text.now a.at a.inside head_of none_headed c.requires (no_word a.text.now a.at a.inside n.result c.in_default.not-Word n.ensures)
