@@ -7,7 +7,7 @@
 #   make host        build the example gateway, target/host/host
 #   make accident    replay the accident of examples/host with it, in three ways
 #   make check       run the gate, as make test does
-#   make clean       remove target/
+#   make clean       remove target/, and the folders out/ in which the prover keeps what is proved
 #
 # V=1 shows every command, and all that the prover prints. PREFIX, INCLUDEDIR, LIBDIR and MANDIR are where to install;
 # DESTDIR goes before each of them, for packages. ARCHIVE=FILE, CHECKER=FILE and LOADER=FILE are a library and checkers
@@ -30,7 +30,8 @@ ARCHIVE = target/staticlib/libvichrelka.a
 CHECKER = target/bin/listing_check
 LOADER = target/bin/load_check
 PAGES = target/man
-sources := $(shell find crates crates.txt .kit -type f)
+# without what rt makes itself
+sources := $(shell find crates crates.txt .kit -name out -prune -o -type f -print)
 else
 ARCHIVE = lib/libvichrelka.a
 CHECKER = libexec/listing_check
@@ -135,8 +136,8 @@ check test:
 	.ci/run
 
 clean:
-	echo "removing target/, with what is known to be proved: the next build proves it again"
-	rm -rf target
+	echo "removing target/ and crates/*/out, with what is known to be proved: the next build proves it again"
+	rm -rf target crates/*/out
 else
 dist host accident check test clean:
 	echo "make: this is a package: it can be installed and uninstalled; '$@' is for the repository" >&2; exit 1

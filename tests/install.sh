@@ -256,10 +256,10 @@ has "make install, with V=1" "install -m 755 listing-check" "$log"
 # the first use, in a copy of the repository with next to nothing in it: without the toolchain, then with one that proves or fails
 fresh=$scratch/fresh
 tools=$scratch/tools
-mkdir -p "$fresh/crates" "$fresh/tools" "$tools"
+mkdir -p "$fresh/crates/gateway_c" "$fresh/tools" "$tools"
 cp Makefile crates.txt .kit "$fresh"
 cp tools/prove "$fresh/tools"
-for tool in cp find grep mkdir sh tail tee; do
+for tool in awk cp find grep mkdir mv sh tail tee; do
   ln -s "$(command -v "$tool")" "$tools/$tool" || stop "$tool is missing"
 done
 make=$(command -v make)
@@ -271,14 +271,16 @@ is "no toolchain: status" 2 $?
 has "no toolchain" "rt, the Rattle toolchain, is not on the path" "$log"
 cat >"$tools/rt" <<'END'
 #!/bin/sh
-[ "$*" = "staticlib gateway" ] || exit 2
-echo "rt: text proved (unchanged since it was last proved)"
-for name in base hash name octets address table gateway; do
+[ "${PWD##*/} $*" = "gateway_c lib" ] || exit 2
+for name in base hash name octets address table gateway gateway_c; do
+  echo "rt: chose --jobs 2 for $name"
   echo "fn $name::one: proved"
-  echo "rt: $name proved (3 s)"
+  echo "library text: modules loaded=23 checked=0"
+  echo "crate $name: modules loaded=1 checked=39"
+  echo "logic=proved functions=1 incremental=trusted"
 done
-mkdir -p target/staticlib
-echo library >target/staticlib/libgateway.a
+mkdir -p out
+echo library >out/libgateway_c.a
 END
 chmod +x "$tools/rt"
 first V=1
@@ -288,8 +290,8 @@ rm -r "$fresh/target"
 first
 is "a toolchain: status" 0 $?
 cat >"$out/told" <<'END'
-rt staticlib gateway: proves what is not proved yet, minutes the first time and seconds when little has changed
-  base hash name octets address table gateway
+tools/prove staticlib gateway: proves what is not proved yet, minutes the first time and seconds when little has changed
+  base hash name octets address table gateway gateway_c
   1 crates were proved before, and are unchanged
 END
 same "a toolchain" "$out/told" "$log"
@@ -297,11 +299,15 @@ has "all that it said" "fn table::one: proved" "$fresh/target/make.log"
 rm -r "$fresh/target"
 cat >"$tools/rt" <<'END'
 #!/bin/sh
-echo "rt: base proved (3 s)"
-echo "crates/name/src/lib.rt:16:9: error[unclosed-delimiter]: the first one"
-echo "crates/name/src/lib.rt:16:11: error[unclosed-delimiter]: the second one"
+echo "rt: chose --jobs 2 for base"
+echo "crate base: modules loaded=1 checked=39"
+echo "logic=proved functions=1 incremental=trusted"
+echo "rt: chose --jobs 2 for name"
+echo "src/lib.rt:16:9: error[unclosed-delimiter]: the first one"
+echo "src/lib.rt:16:11: error[unclosed-delimiter]: the second one"
 echo "fn name::one: not proved"
-echo "rt: name NOT PROVED (exit 1, 1 s)"
+echo "logic=not-proved"
+echo "rt: the library name did not build, so nothing above it was checked" >&2
 exit 1
 END
 first
