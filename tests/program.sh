@@ -41,7 +41,8 @@ examples() {
   [ "$count" -gt 0 ] || fail "$1 has no example"
 }
 
-rt check listing_check load_check test_loads >"$out/build.log" 2>&1 || stop "'rt check listing_check load_check test_loads' failed: run it to see why"
+tools/prove check listing_check load_check test_loads >"$out/build.log" 2>&1 ||
+  stop "'tools/prove check listing_check load_check test_loads' failed: run it to see why"
 for made in "$check" "$load" "$library"; do
   [ -x "$made" ] || stop "there is no $made"
 done
@@ -454,36 +455,58 @@ cp "$folder/21-no-final-dot.listing" "$out/a name: with blanks"
 scripted "a name with blanks" 1 "$folder/21-no-final-dot.expected" "$out/a name: with blanks"
 has "a name with blanks: where" "$out/a name: with blanks:3:1: refused 21: " "$out/said"
 
-# the first use, in a copy of the repository with next to nothing in it: without the toolchain, with one that fails, and with one that builds
-fresh=$PWD/$out/fresh
-tools=$PWD/$out/tools
-mkdir -p "$fresh/docs" "$fresh/crates" "$tools"
+# the first use, in a copy of the repository with next to nothing in it: without the toolchain, with one that fails,
+# and with one that builds; not below target/, since `rt ci` refuses links in the repository
+scratch=$(mktemp -d "${TMPDIR:-/tmp}/vichrelka program.XXXXXX") || stop "no room for temporary files"
+trap 'rm -rf "$scratch"' EXIT
+fresh=$scratch/fresh
+tools=$scratch/tools
+mkdir -p "$fresh/docs" "$fresh/crates/listing_check" "$fresh/crates/load_check" "$fresh/tools" "$tools"
 cp listing-check "$fresh"
 cp docs/REFUSALS.md "$fresh/docs"
-for tool in awk cat dirname find fold head mkdir mktemp od readlink rm sed sh tail touch wc; do
+cp tools/prove "$fresh/tools"
+for tool in awk cat cp dirname find fold grep head mkdir mktemp mv od readlink rm sed sh tail tee touch wc; do
   ln -s "$(command -v "$tool")" "$tools/$tool" || stop "$tool is missing"
 done
 script=$fresh/listing-check
 path=$tools
 scripted "no toolchain" 2 /dev/null "$folder/site.listing"
 has "no toolchain" "rt, the Rattle toolchain" "$out/said"
-printf '#!/bin/sh\necho "it is broken"\nexit 1\n' >"$tools/rt"
+printf '#!/bin/sh\necho "it is broken" >&2\nexit 1\n' >"$tools/rt"
 chmod +x "$tools/rt"
 scripted "a build that fails" 2 /dev/null "$folder/site.listing"
 has "a build that fails" "it is broken" "$out/said"
-has "a build that fails, what to do" "rt check listing_check" "$out/said"
-printf '#!/bin/sh\necho "rt: base proved (1 s)"\necho "a.rt:1:1: error: the cause"\nfor i in 1 2 3 4 5 6 7; do echo "b.rt: error: what follows"; done\nexit 1\n' >"$tools/rt"
+has "a build that fails, what to do" "tools/prove check listing_check" "$out/said"
+cat >"$tools/rt" <<'END'
+#!/bin/sh
+exec >&2
+echo "crate base: modules loaded=1 checked=39"
+echo "logic=proved functions=1 incremental=trusted"
+echo "src/a.rt:1:1: error: the cause"
+for i in 1 2 3 4 5 6 7; do echo "src/b.rt: error: what follows"; done
+exit 1
+END
 scripted "a build with errors" 2 /dev/null --load "$folder/site.listing"
-has "a build with errors: the first" "a.rt:1:1: error: the cause" "$out/said"
+has "a build with errors: the first" "crates/load_check/src/a.rt:1:1: error: the cause" "$out/said"
 is "a build with errors: no others" 0 "$(grep -c 'what follows' "$out/said")"
-has "a build with errors: what was proved" "listing-check: base proved (1 s)" "$out/said"
-has "a build with errors, what to do" "rt check load_check" "$out/said"
-mkdir -p "$fresh/target/bin"
-printf '#!/bin/sh\n[ "$*" = "check listing_check" ] || exit 1\necho "rt: base proved (unchanged since it was last proved)"\necho "rt: text proved (2 s)"\ncat %s >target/bin/listing_check && chmod +x target/bin/listing_check\n' "'$program'" >"$tools/rt"
+has "a build with errors: what was proved" "listing-check: base proved" "$out/said"
+has "a build with errors, what to do" "tools/prove check load_check" "$out/said"
+# rt runs what it has built, and its exit status is then the program's own
+cat >"$tools/rt" <<END
+#!/bin/sh
+[ "\${PWD##*/} \$*" = "listing_check run" ] || exit 1
+exec >&2
+echo "library base: modules loaded=23 checked=0"
+echo "crate text: modules loaded=1 checked=39"
+echo "logic=proved functions=1 incremental=trusted"
+mkdir -p out && cat '$program' >out/listing_check && chmod +x out/listing_check
+echo "rt: running out/listing_check; to give it other input, run that file yourself"
+exit 1
+END
 ln -s "$(command -v chmod)" "$tools/chmod"
 scripted "the first use" 0 "$folder/site.expected" "$folder/site.listing"
 has "the first use" "proving and building" "$out/said"
-has "the first use: a line for a crate" "listing-check: text proved (2 s)" "$out/said"
+has "the first use: a line for a crate" "listing-check: text proved" "$out/said"
 is "the first use: none for a crate that is proved already" 0 "$(grep -c 'base proved' "$out/said")"
 scripted "the second use" 0 "$folder/site.expected" "$folder/site.listing"
 same "the second use: error stream" /dev/null "$out/said"
