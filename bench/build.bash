@@ -1,5 +1,5 @@
 # For the scripts of this folder, which source it at the repository's root. VICHRELKA_ARCHIVE is a static library to measure in place of the one that
-# `rt staticlib gateway` builds.
+# `tools/prove staticlib gateway` builds.
 # shellcheck shell=bash
 
 out=target/bench
@@ -12,7 +12,7 @@ archive() {
   if [ "$1" = gateway ] && [ -n "${VICHRELKA_ARCHIVE:-}" ]; then
     linked=$VICHRELKA_ARCHIVE
   else
-    rt staticlib "$1" >/dev/null 2>&1 || { echo "bench: 'rt staticlib $1' failed: run it to see why" >&2; exit 1; }
+    tools/prove staticlib "$1" >/dev/null 2>&1 || { echo "bench: 'tools/prove staticlib $1' failed: run it to see why" >&2; exit 1; }
   fi
 }
 

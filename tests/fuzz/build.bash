@@ -1,5 +1,5 @@
 # For the scripts of this folder: they source this file at the repository's root. VICHRELKA_ARCHIVE is a static library to test in place of the one
-# that `rt staticlib gateway` builds; SHIM a file of tests/planted/ that stands before it, to see that its slip is found.
+# that `tools/prove staticlib gateway` builds; SHIM a file of tests/planted/ that stands before it, to see that its slip is found.
 # shellcheck shell=bash
 
 out=target/fuzz
@@ -17,7 +17,7 @@ link() {
   shift
   mkdir -p "$out"
   if [ -z "$archive" ]; then
-    rt staticlib gateway >"$out/staticlib.log" 2>&1 || stop "'rt staticlib gateway' failed: run it to see why"
+    tools/prove staticlib gateway >"$out/staticlib.log" 2>&1 || stop "'tools/prove staticlib gateway' failed: run it to see why"
     archive=target/staticlib/libgateway.a
   fi
   if [ -n "${SHIM:-}" ]; then
