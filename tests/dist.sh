@@ -14,17 +14,13 @@ scratch=$(mktemp -d "${TMPDIR:-/tmp}/vichrelka dist.XXXXXX") || stop "no room fo
 trap 'rm -rf "$scratch"' EXIT
 log=$out/make.log
 
-# The library is built again while the rest is tried: with what is known of the crates below it, and nothing of the library itself, which is proved
-# and compiled there.
-again=$out/again
+# The library is built again while the rest is tried: with the crates below it as they were built, and nothing of the archive itself, which is proved and
+# compiled there. Not below target/, since `rt ci` refuses another crates.txt in the repository.
+again=$scratch/again
 build_again() {
-  rm -rf "$again"
-  mkdir -p "$again/target"
-  cp -a crates crates.txt "$again"
-  cp -a target/stamp target/log "$again/target"
-  cp -al target/rlib "$again/target"
-  rm -rf "$again/target/stamp/gateway" "$again/target/rlib/gateway.rlib"
-  (cd "$again" && exec rt staticlib gateway) >"$out/again.log" 2>&1
+  mkdir -p "$again"
+  tar -c --exclude='crates/*/out/incremental' --exclude=crates/gateway_c/out crates crates.txt tools/prove | tar -x -C "$again" &&
+    (cd "$again" && exec tools/prove staticlib gateway) >"$out/again.log" 2>&1
 }
 building=
 if [ -z "${VICHRELKA_ARCHIVE:-}" ]; then
@@ -165,7 +161,7 @@ if [ -z "$building" ]; then
   echo "dist: the library built again: not measured, VICHRELKA_ARCHIVE is set"
 else
   wait "$building"
-  is "rt staticlib gateway in another folder: status" 0 $?
+  is "tools/prove staticlib gateway in another folder: status" 0 $?
   same "the library, built in two folders" "$archive" "$again/target/staticlib/libgateway.a"
   rm -rf "$again"
 fi
