@@ -25,7 +25,8 @@ else
   show "$out/said"
 fi
 
-# a tree as this one, with a README of its own
+# a tree as this one, with a README of its own; it does not stay, since `rt ci` refuses links in the repository
+trap 'rm -rf "$out/tree"' EXIT
 for entry in *; do
   [ "$entry" = README.md ] || ln -s "$PWD/$entry" "$out/tree/$entry"
 done
