@@ -9,5 +9,6 @@ def crates_list(path):
             line = line.split("#")[0]
             if ":" in line:
                 name, below = line.split(":")
-                uses[name.strip()] = set(below.split())
+                # behind the name may stand what kind of crate it is
+                uses[name.split()[0]] = set(below.split())
     return uses

@@ -1,10 +1,18 @@
 #!/usr/bin/env bash
-# The edits that `rt ci` tried, crates/*/must-fail. An edit has one wrong program or several, with a blank line between them, each with a line `at: FUNCTION`: the function's folder below
-# proofs/ and, of functions that call each other and have one proof, a second word, the function; or of a definition `at: FILE LAW`, a file proofs/FILE.antt and the law in it that no longer
+# The edits of crates/*/must-fail. An edit has one wrong program or several, with a blank line between them, each with a line `at: FUNCTION`: the function's folder below
+# proofs/ (of functions that call each other and have one proof, that proof's folder) and, where more is to be said, a second word, how the goal's name begins that refuses it; or of a
+# definition `at: FILE LAW`, a file proofs/FILE.antt and the law in it that no longer
 # holds. A wrong program that does not say where it is refused is a failure; what only changes the imports for another one need not. That rt refuses such an edit says that one of them is
-# refused; here the log, target/must-fail/CRATE/EDIT/.log, is asked that each is: an error stands in the function's own proof, or is the law's, that is about a fact, not that something else
-# was not admitted, that a name is not known, that there is no such field or that a fact is of another form. Of a function without a proof in the repository, which `rt` proves by a
-# search, that search must not have closed. Last line: `N passed, M failed`, counting wrong programs; what tells them apart is tried first, and a slip of it is a failure.
+# refused. So each edit is tried here as rt tries it, and what `rt check` prints of it is kept (tests/edits.py), in target/tests/edits/logs/CRATE/EDIT.log; the log is asked that each is
+# refused: an error stands in the function's own proof, or is the law's, that is about a fact, not that something else
+# was not admitted, that a name is not known, that there is no such field, that a fact is of another form or that the prover met a limit. Of what `rt` proves by a
+# search, without an answer in the repository, that search must not have closed. A search waits for the proofs of what the function calls, and one wrong program may take from another
+# what its proof names: so a wrong program that is not refused so beside the others is tried alone, in EDIT.N.log, and has to be refused so there.
+#
+#   bash tests/edits.sh              minutes the first time; what was tried, and has not changed since, is not tried again
+#   bash tests/edits.sh CRATE..      those of these crates
+#
+# Last line: `N passed, M failed`, counting wrong programs; what tells them apart is tried first, and a slip of it is a failure.
 set -uo pipefail
 cd "$(dirname "$0")/.." || exit 2
 . tests/texts.bash
@@ -25,17 +33,31 @@ unsaid() {
     END { if (programs == 0) print "no wrong program that says where it is refused" }' "$1"
 }
 
-# refusals CRATE FOLDER NEED LOG: the lines of the log that are this function's, or this law's, own refusals
+# places EDIT: of each line `at: ` the number of the wrong program that has it, and the line's words
+places() {
+  awk -v RS= '
+    {
+      said = 0
+      n = split($0, line, "\n")
+      for (i = 1; i <= n; i++)
+        if (line[i] ~ /^at: /) {
+          if (!said++) number++
+          print number, substr(line[i], 5)
+        }
+    }' "$1"
+}
+
+# no errors of a fact: what is not known, what was not looked at, what has another form, where the prover stopped
+no_fact='can be named from here|was not admitted|was rejected, was not checked|is not in scope|has no field|is applied to an argument but has type|antt ran out of |outgrew the memory limit'
+
+# refusals CRATE FOLDER GOAL LOG: the lines of the log that are this function's, or this law's, own refusals
 refusals() {
-  local proof=proofs/$2/Proof.antt error=": error: \`$3"
   if [ -f "crates/$1/proofs/$2.antt" ]; then
-    proof=proofs/$2.antt
-    error="$error\`"
-  fi
-  if [ -f "crates/$1/$proof" ]; then
-    grep -aF "/$proof:" "$4" | grep -aF "$error" | grep -avE 'was not admitted|can be named from here|is not in scope|has no field|is applied to an argument but has type|: error: `[^`]*-spec`'
+    grep -aF "./proofs/$2.antt:" "$4" | grep -aE "^[^ ]*:[0-9]+:[0-9]+: error: " | grep -aF ": error: \`$3\`: " | grep -avE "$no_fact"
   else
-    grep -a "^fn $1::${2//\//::}: no proof: .*\`search\` does not close " "$4"
+    grep -aF -e "./proofs/$2/Answers.antt:" -e "./proofs/$2/Invariants.antt:" "$4" | grep -aE "^[^ ]*:[0-9]+:[0-9]+: error: " | grep -aF ": error: \`$3" | grep -avE "$no_fact"
+    # what it does not prove is listed behind the word, and then what the function calls that is not proved
+    grep -aF "fn $1::${2//\//::}: no proof: " "$4" | sed -n 's/.*; `search` did not prove \([^;]*\).*/, \1/p' | grep -aF ", \`$3"
   fi
 }
 
@@ -57,22 +79,80 @@ tell "one with two places" "$one"$'\nold: 5\nnew: 6' ""
 tell "one that says nothing behind the word" "${one/at: first/at: }"$'\n\n'"$one" "The first."
 tell "imports alone" "$imports" "no wrong program that says where it is refused"
 
+# asked WHAT FOLDER GOAL EXPECTED LINE..: how many lines of a log, all of the crate `tried`, are refusals at the folder
+asked() {
+  local what_for=$1 folder=$2 goal=$3 expected=$4
+  shift 4
+  printf '%s\n' "$@" >"$out/tried.log"
+  is "$what_for" "$expected" "$(refusals tried "$folder" "$goal" "$out/tried.log" | wc -l)"
+}
+answers=./proofs/table/add/Answers.antt:13:40
+asked "an answer that is refused" table/add "" 1 "$answers: error: \`returns\`: \`omega\`: the goal does not follow from what it read"
+asked "a loop's invariant" table/add "" 1 "./proofs/table/add/Invariants.antt:9:1: error: \`invariant-loop-i\`: expected type \`A\`, but this has type \`B\`"
+asked "the goal that is named" table/add returns-then 1 "$answers: error: \`returns-then-b-eq0\`: expected type \`A\`, but this has type \`B\`"
+asked "another goal than the one that is named" table/add loop-i 0 "$answers: error: \`returns-then-b-eq0\`: expected type \`A\`, but this has type \`B\`"
+asked "another function's answer" table/add "" 0 "./proofs/table/add_one/Answers.antt:13:40: error: \`returns\`: expected type \`A\`, but this has type \`B\`" \
+  "./proofs/other/table/add/Answers.antt:13:40: error: \`returns\`: expected type \`A\`, but this has type \`B\`"
+asked "a note" table/add "" 0 "$answers: note: \`simp\` made 1 round(s) on the goal" "fn tried::table::add: not proved"
+asked "a goal that there is not" table/add "" 0 "$answers: error: \`returns-2\`: \`goal.returns-2\`: module \`Rattle.tried.proofs.table.add.Goals\` has no \`returns-2\` that can be named from here" \
+  "$answers: error: module \`Rattle.tried.proofs.table.add.Goals\` has no \`then-b-gt63\` that can be named from here (did you mean \`then-b-gt64\`?)"
+asked "a field that there is not" table/add "" 0 "$answers: error: \`returns\`: record \`Rattle.tried.proofs.table.add.Lts.View.In\` has no field \`if-n-ne0\` (nearest: .if-n-eq0)"
+asked "what something else took with it" table/add "" 0 "$answers: error: 1 declaration that depends on \`then-b\`, which was not admitted, was not checked: returns" \
+  "$answers: error: 1 declaration that depends on \`then-b\`, which was rejected, was not checked: returns"
+asked "a fact of another form" table/add "" 0 "$answers: error: \`returns\`: this is applied to an argument but has type \`n ≤ 5\`"
+asked "a limit of the prover" table/add "" 0 "$answers: error: \`returns\`: antt ran out of the steps that the check of one declaration may take"
+search='no proof: expected answers in ./proofs/table/add/Answers.antt; `search` did not prove `overflow_add-n`, `returns-then-b-eq0`'
+asked "a search that does not close" table/add "" 1 "fn tried::table::add: $search"
+asked "the goal that it does not close" table/add returns 1 "fn tried::table::add: $search; it calls \`tried::two\`, which is not proved"
+asked "another goal than the one that it does not close" table/add loop-i 0 "fn tried::table::add: $search"
+asked "another function's search" add "" 0 "fn tried::table::add: $search"
+asked "a search that waits" table/add "" 0 "fn tried::table::add: no proof: it calls \`tried::two\`, which is not proved"
+law=$(basename "$(find crates/base/proofs -maxdepth 1 -name '*Laws.antt' | LC_ALL=C sort | head -n 1)" .antt)
+is "a law" 1 "$(refusals base "$law" one <(echo "./proofs/$law.antt:9:3: error: \`one\`: expected type \`A\`, but this has type \`B\`") | wc -l)"
+is "another law" 0 "$(refusals base "$law" one <(echo "./proofs/$law.antt:9:3: error: \`one_more\`: expected type \`A\`, but this has type \`B\`") | wc -l)"
+
+logs=$out/logs
+# tried CRATE LABEL LOG: what was tried came to a verdict
+tried() {
+  [ -f "$3" ] && tail -n 1 "$3" | grep -q '^edits: tried, ' && return
+  fail "$1/$2 was not tried: see $3"
+  return 1
+}
+
+edits=()
 for edit in crates/*/must-fail/*.edit; do
   crate=${edit#crates/}
   crate=${crate%%/*}
+  if [ $# -eq 0 ] || [[ " $* " == *" $crate "* ]]; then edits+=("$edit"); fi
+done
+python3 -B tests/edits.py "$logs" "$@" || fail "not every edit was tried"
+
+: >"$out/alone"
+for edit in "${edits[@]}"; do
+  crate=${edit#crates/}
+  crate=${crate%%/*}
   label=$(basename "$edit" .edit)
-  log=target/must-fail/$crate/$label/.log
   while read -r first; do
     fail "$crate/$label: a line \`at: \` has to say where it is refused: $first"
   done < <(unsaid "$edit")
-  while read -r folder need; do
-    if [ ! -f "$log" ]; then
-      fail "$crate/$label was not tried: run rt ci, or rt must-fail $crate"
-    elif [ -n "$(refusals "$crate" "$folder" "$need" "$log")" ]; then
+  tried "$crate" "$label" "$logs/$crate/$label.log" || continue
+  while read -r number folder goal; do
+    if [ -n "$(refusals "$crate" "$folder" "$goal" "$logs/$crate/$label.log")" ]; then
       pass
     else
-      fail "$crate/$label: the wrong program at $folder $need is not refused by itself: see $log"
+      echo "$crate $label $number $folder $goal" >>"$out/alone"
     fi
-  done < <(sed -n 's/^at: //p' "$edit")
+  done < <(places "$edit")
 done
+
+cut -d ' ' -f 1-3 "$out/alone" | uniq | python3 -B tests/edits.py --alone "$logs" || fail "not every wrong program was tried alone"
+while read -r crate label number folder goal; do
+  log=$logs/$crate/$label.$number.log
+  tried "$crate" "$label, number $number alone" "$log" || continue
+  if [ -n "$(refusals "$crate" "$folder" "$goal" "$log")" ]; then
+    pass
+  else
+    fail "$crate/$label: the wrong program at $folder $goal is not refused by itself: see $log"
+  fi
+done <"$out/alone"
 finish
