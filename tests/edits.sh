@@ -56,6 +56,13 @@ refusals() {
     grep -aF "./proofs/$2.antt:" "$4" | grep -aE "^[^ ]*:[0-9]+:[0-9]+: error: " | grep -aF ": error: \`$3\`: " | grep -avE "$no_fact"
   else
     grep -aF -e "./proofs/$2/Answers.antt:" -e "./proofs/$2/Invariants.antt:" "$4" | grep -aE "^[^ ]*:[0-9]+:[0-9]+: error: " | grep -aF ": error: \`$3" | grep -avE "$no_fact"
+    # a goal without an answer, since it has another name than in the right program: that it is false where all holds that is known there, which an invariant that is no longer read may lack
+    if ! grep -aF "./proofs/$2/Invariants.antt:" "$4" | grep -qaE "^[^ ]*:[0-9]+:[0-9]+: error: "; then
+      awk -v own="fn $1::${2//\//::}: " -v goal="(\`$3" '
+        index($0, own) == 1 { printf "%s", told }
+        /^[a-z]+ [a-z0-9_]+::/ { told = "" }
+        /^note: src\/.* the facts known there allow values at which this goal is false$/ && index($0, goal) { told = told $0 "\n" }' "$4"
+    fi
     # what it does not prove is listed behind the word, and then what the function calls that is not proved
     grep -aF "fn $1::${2//\//::}: no proof: " "$4" | sed -n 's/.*; `search` did not prove \([^;]*\).*/, \1/p' | grep -aF ", \`$3"
   fi
@@ -101,6 +108,13 @@ asked "what something else took with it" table/add "" 0 "$answers: error: 1 decl
   "$answers: error: 1 declaration that depends on \`then-b\`, which was rejected, was not checked: returns"
 asked "a fact of another form" table/add "" 0 "$answers: error: \`returns\`: this is applied to an argument but has type \`n ≤ 5\`"
 asked "a limit of the prover" table/add "" 0 "$answers: error: \`returns\`: antt ran out of the steps that the check of one declaration may take"
+false='note: src/lib.rt:9:5: it is not proved that what the function ensures holds when it returns (`returns-then-b`); the facts known there allow values at which this goal is false'
+asked "a goal that rt finds false" table/add returns 1 "fn tried::table::one: proved" "$false" "note: to see how far" "fn tried::table::add: not proved"
+asked "another goal than the one that rt finds false" table/add loop-i 0 "$false" "fn tried::table::add: not proved"
+asked "a goal that rt finds false, of another function" table/add "" 0 "$false" "fn tried::table::one: not proved" "note: to see how far" "fn tried::table::add: not proved"
+asked "a goal that rt finds false, without the invariant" table/add "" 0 "./proofs/table/add/Invariants.antt:9:1: error: module \`A\` has no \`a\` that can be named from here" \
+  "$false" "fn tried::table::add: not proved"
+asked "a goal that the search gave up" table/add "" 0 "${false/the facts*/\`search\` gave up at one of its limits}" "fn tried::table::add: not proved"
 search='no proof: expected answers in ./proofs/table/add/Answers.antt; `search` did not prove `overflow_add-n`, `returns-then-b-eq0`'
 asked "a search that does not close" table/add "" 1 "fn tried::table::add: $search"
 asked "the goal that it does not close" table/add returns 1 "fn tried::table::add: $search; it calls \`tried::two\`, which is not proved"

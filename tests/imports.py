@@ -27,8 +27,7 @@ MEANINGS = {
 
 LIBRARIES = ["Prim", "mathlib", "native", "lib"]
 
-# a crate's own library is Rattle·CRATE·specs, and what it passes on to others Rattle·CRATE
-SPECS = re.compile(r"Rattle·([a-z0-9_]+)(?:·specs)?\.specs\.([A-Za-z0-9_]+)")
+SPECS = re.compile(r"Rattle\.([a-z0-9_]+)\.specs\.([A-Za-z0-9_]+)")
 
 
 def plain(text):
