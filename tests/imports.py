@@ -26,6 +26,9 @@ MEANINGS = {
 }
 
 LIBRARIES = ["Prim", "mathlib", "native", "lib"]
+# what passes these on, and what a definition above the ground may have of the toolchain beside that
+PASSED_ON = re.compile(r"Rattle\.std\.(?:specs\.Prelude|proofs\.Math)(?:\.|$)")
+TOOLCHAIN = re.compile(r"Rattle\.std\.specs\.[A-Za-z0-9_]+")
 
 SPECS = re.compile(r"Rattle\.([a-z0-9_]+)\.specs\.([A-Za-z0-9_]+)")
 
@@ -38,9 +41,9 @@ def plain(text):
 def cited(text):
     """The paths into crates, whether a `use` brings them or an expression has the whole path; and what else a `use` begins with."""
     text = plain(text)
-    paths = [path.rstrip(".") for path in re.findall(r"Rattle·[^\s(){},;]*", text)]
+    paths = [path.rstrip(".") for path in re.findall(r"(?<![^\s(){},;])(?:package\.)?(Rattle\b[^\s(){},;]*)", text)]
     heads = re.findall(r"^\s*(?:unfoldable\s+)?(?:pub\s+)?use\s+(?:package\.)?([^\s.{]+)", text, re.M)
-    return paths, [h for h in heads if not h.startswith("Rattle·")]
+    return paths, [h for h in heads if h != "Rattle"]
 
 
 class Look:
@@ -69,6 +72,11 @@ class Look:
     def one(self, file, crate, name, paths, heads):
         meant = name in MEANINGS.get(crate, [])
         for path in paths:
+            if PASSED_ON.match(path) or crate not in GROUND and TOOLCHAIN.match(path):
+                continue
+            if TOOLCHAIN.match(path):
+                self.fault(file, f"cites {path}, which is none of the libraries {', '.join(LIBRARIES)}, nor passes them on")
+                continue
             match = SPECS.match(path)
             if not match:
                 self.fault(file, f"cites {path}, which is no file of specs/")
