@@ -8,8 +8,11 @@ what=moved
 tool=$PWD/tools/moved
 out=$PWD/target/tests/moved
 rm -rf "$out"
-mkdir -p "$out/repository" || exit 2
-cd "$out/repository" || exit 2
+mkdir -p "$out" || exit 2
+# outside this repository, where rt stops at files that no check reads and at another repository
+repository=$(mktemp -d) || exit 2
+trap 'rm -rf "$repository"' EXIT
+cd "$repository" || exit 2
 
 # a repository that is this folder's, whatever the one that asks and its user say
 # shellcheck disable=SC2046
@@ -26,7 +29,7 @@ git init -q . 2>/dev/null || stop "git cannot make a repository"
 mkdir -p crates/low/{specs,src,proofs/read} crates/high/{specs,src,proofs}
 cat >crates/low/specs/Form.antt <<'END'
 -- the form
-use Prim.Native.Nat.{ℕ, _+_}
+use Rattle.std.specs.Prelude.{ℕ, ◌+◌}
 
 -- the limit
 abbrev pub limit : ℕ
@@ -40,19 +43,19 @@ double n = n + n
 pub record Entry : Type 0 where
   pub place : ℕ
 
-abbrev pub placeOf : Entry → ℕ
-placeOf e = e .place
+abbrev pub place_of : Entry → ℕ
+place_of e = e.place
 
 abbrev pub spare : ℕ
 spare = 7
 END
 cat >crates/low/src/lib.rt <<'END'
-ghost use Rattle·low·specs.specs.Form.{double, limit};
+ghost use Rattle.low.specs.Form.{double, limit};
 
 // a comment with a { in it
 pub fn read(n: u32) -> u32
-    requires { ⌜ n ≤ limit ⌝ }
-    ensures { λ r. ⌜ r ≡ double n ⌝ }
+    requires { n ≤ limit }
+    ensures { result ≡ double n }
 {
     n + n
 }
@@ -63,15 +66,15 @@ pub fn brace() -> u8 {
 
 impl Reader {
     pub fn next(&self) -> u32
-        ensures first { λ r. ⌜ r ≡ 0 ⌝ }
-        ensures second { λ r. ⌜ r ≡ 0 + 0 ⌝ }
+        ensures first { result ≡ 0 }
+        ensures second { result ≡ 0 + 0 }
     {
         0
     }
 }
 END
 cat >crates/low/proofs/Theorems.antt <<'END'
-use Rattle·low·specs.specs.Form.{double, spare}
+use Rattle.low.specs.Form.{double, spare}
 
 pub doubled : (n : ℕ) → double n ≡ double n
 doubled n = refl
@@ -82,13 +85,13 @@ spared = refl
 pub kept : 0 ≡ 0
 kept = refl
 END
-printf 'one\n' >crates/low/proofs/read/Proof.antt
+printf 'one\n' >crates/low/proofs/read/Answers.antt
 cat >crates/high/specs/Use.antt <<'END'
-use Rattle·low.specs.Form.{Entry, double, placeOf}
+use Rattle.low.specs.Form.{Entry, double, place_of}
 
 -- what is used
 abbrev pub used : Entry → ℕ
-used e = double (placeOf e)
+used e = double (place_of e)
 
 -- what is said
 abbrev pub said : ℕ
@@ -96,11 +99,11 @@ said = 1
 END
 record "the first"
 
-sed -i -e 's/^limit = 64/limit = 256/' -e '/^-- twice/,/^$/d' -e 's/place : ℕ/offset : ℕ/' -e 's/^abbrev pub placeOf/abbrev pub offsetOf/' -e 's/^placeOf e = e .place/offsetOf entry = entry .offset/' \
+sed -i -e 's/^limit = 64/limit = 256/' -e '/^-- twice/,/^$/d' -e 's/place : ℕ/offset : ℕ/' -e 's/^abbrev pub place_of/abbrev pub offset_of/' -e 's/^place_of e = e\.place/offset_of entry = entry.offset/' \
   -e '/spare/d' crates/low/specs/Form.antt
 cat >crates/low/specs/Sums.antt <<'END'
 -- sums
-use Prim.Native.Nat.{ℕ, _+_}
+use Rattle.std.specs.Prelude.{ℕ, ◌+◌}
 
 -- a number and itself
 unfoldable pub double : ℕ → ℕ
@@ -110,10 +113,10 @@ double n =
 abbrev pub triple : ℕ → ℕ
 triple n = n + n + n
 END
-sed -i -e 's/^-- what is said/-- what was said/' -e 's/placeOf/offsetOf/g' -e 's/^use .*/use Rattle·low.specs.Form.{Entry, offsetOf}\nuse Rattle·low.specs.Sums.{double}/' crates/high/specs/Use.antt
-sed -i -e 's/specs.Form.{double, limit}/specs.Form.{limit};\nghost use Rattle·low·specs.specs.Sums.{double}/' -e 's/n ≤ limit/n < limit/' -e 's/^    n + n/    2 * n/' -e "s/b'{'/b'}'/" -e 's/pub fn next/fn next/' crates/low/src/lib.rt
-sed -i -e 's/Form.{double, spare}/Sums.{double}/' -e '/spare/d' -e 's/^kept = refl/kept = by-hand/' crates/low/proofs/Theorems.antt
-printf 'one\ntwo\n' >crates/low/proofs/read/Proof.antt
+sed -i -e 's/^-- what is said/-- what was said/' -e 's/place_of/offset_of/g' -e 's/^use .*/use Rattle.low.specs.Form.{Entry, offset_of}\nuse Rattle.low.specs.Sums.{double}/' crates/high/specs/Use.antt
+sed -i -e 's/specs.Form.{double, limit}/specs.Form.{limit};\nghost use Rattle.low.specs.Sums.{double}/' -e 's/n ≤ limit/n < limit/' -e 's/^    n + n/    2 * n/' -e "s/b'{'/b'}'/" -e 's/pub fn next/fn next/' crates/low/src/lib.rt
+sed -i -e 's/Form.{double, spare}/Sums.{double}/' -e '/spare/d' -e 's/^kept = refl/kept = by_hand/' crates/low/proofs/Theorems.antt
+printf 'one\ntwo\n' >crates/low/proofs/read/Answers.antt
 record "the second"
 
 cat >"$out/expected" <<'END'
@@ -132,7 +135,7 @@ cat >"$out/expected" <<'END'
 
 | In | has another name |
 |---|---|
-| low/Form | `placeOf → offsetOf`, `Entry.place → offset` |
+| low/Form | `place_of → offset_of`, `Entry.place → offset` |
 
 ## Contracts of public functions
 
@@ -184,8 +187,8 @@ if "$tool" nowhere >"$out/said" 2>&1; then fail "a commit that there is not is n
 
 # a name that means another thing in the same text is a change
 mkdir -p crates/low/specs
-printf 'use Prim.Native.Nat.{ℕ}\n\nabbrev pub placeOf : ℕ → ℕ\nplaceOf n = 0\n' >crates/low/specs/Other.antt
-sed -i 's/^use .*/use Rattle·low.specs.Form.{Entry, double}\nuse Rattle·low.specs.Other.{placeOf}/' crates/high/specs/Use.antt
+printf 'use Rattle.std.specs.Prelude.{ℕ}\n\nabbrev pub place_of : ℕ → ℕ\nplace_of n = 0\n' >crates/low/specs/Other.antt
+sed -i 's/^use .*/use Rattle.low.specs.Form.{Entry, double}\nuse Rattle.low.specs.Other.{place_of}/' crates/high/specs/Use.antt
 "$tool" HEAD >"$out/said" 2>&1
 has "a name that means another thing" "| high/Use | \`used\` |  |  |" "$out/said"
 
@@ -197,28 +200,27 @@ printf '\npub data Left : Type 0 where\n  place : Left\n' >>crates/low/specs/For
 has "a constructor of a field's name" "1 new, 7 as they were." "$out/said"
 
 cat >"$out/old.log" <<'END'
-rt: low proved (4 s)
-rt: high proved (10 s)
-rt: must-fail low/one: refused, as it must be (first at proofs/read/Proof.antt:30:15; 6 s)
-rt: must-fail low/two: refused, as it must be (first at proofs/read/Proof.antt:30:15; 5 s)
+rt: low proved
+rt: high proved
+rt: must-fail low/one.edit: refused, as it must be: ./proofs/read/Answers.antt:30:15: error: `returns`: this is not so
 gate: rt ci took 20 s
 gate: tests/a.sh took 2 s
+edits: tried 2 of low, 10 s
+edits: tried 1 of low, 1 s
+edits: tried 4 of high, 9 s
 END
-sed -e 's/high proved (10 s)/high proved (17 s)/' -e '/low\/two/d' -e 's/took 20 s/took 25 s/' "$out/old.log" >"$out/new.log"
+sed -e 's/^rt: high proved/rt: high is kept: an earlier run on this machine proved the same files over the same libraries/' -e 's/2 of low, 10 s/1 of low, 5 s/' -e 's/took 20 s/took 25 s/' "$out/old.log" >"$out/new.log"
 cat >"$out/expected" <<'END'
 
-| Check of | Before | After | More |
-|---|---:|---:|---:|
-| high | 10 | 17 | +7 |
-| 1 other, less than 3 s off | 4 | 4 | +0 |
-| **all** | 14 | 21 | +7 |
+Crates proved: 2 before, 1 after; known to be proved by earlier runs: 0 before, 1 after.
 
 | Wrong programs of | Before | After | More |
 |---|---:|---:|---:|
 | low | 11 | 6 | −5 |
-| **all** | 11 | 6 | −5 |
+| 1 other, less than 5 s off | 9 | 9 | +0 |
+| **all** | 20 | 15 | −5 |
 
-Edits tried: 2 before, 1 after. Crates and edits run side by side, so their seconds are more than those of `rt ci`.
+Edits tried: 7 before, 6 after. Crates run side by side, so their seconds are more than those of `tests/edits.sh`.
 
 | Part of the gate | Before | After | More |
 |---|---:|---:|---:|
