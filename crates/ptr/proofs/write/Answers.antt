@@ -22,11 +22,10 @@ returns-then-not-is_family c =
 known : (c : After-address_size)
     → let n = c.args.family in
     KnownFamily n × (c.address_size.result ≡ address_size (family_of n))
-known c =
-    (
-      c.is_family.ensures.if_true c.if-not-is_family.false,
-      c.address_size.ensures ∙ ap address_size c.family_of-version.ensures,
-    )
+known c = (
+  c.is_family.ensures.if_true c.if-not-is_family.false,
+  c.address_size.ensures ∙ ap address_size c.family_of-version.ensures,
+)
 
 pub returns-then-address-address_size : goal.returns-then-address-address_size
 returns-then-address-address_size c =

@@ -29,8 +29,8 @@ loop-i-preserved c =
     let l = c.loop-i in
     let more = c.loop-i-test.true in
     elim c.if-marks-i.branch [
-      then-marks-i+else-is_owner w ↦ passed_owner _ _ _ _ _ l.i l.invariant c.requires.3 (w.if-marks-i.true ∙ c.requires.4) w.is_owner.result w.is_owner.ensures more w.if-is_owner.false
-    | else-marks-i w ↦ passed_mark _ _ _ _ _ l.i l.invariant more (λ e. w.if-marks-i.false (e ∙ sym c.requires.4))
+      | then-marks-i+else-is_owner w ↦ passed_owner _ _ _ _ _ l.i l.invariant c.requires.3 (w.if-marks-i.true ∙ c.requires.4) w.is_owner.result w.is_owner.ensures more w.if-is_owner.false
+      | else-marks-i w ↦ passed_mark _ _ _ _ _ l.i l.invariant more (λ e. w.if-marks-i.false (e ∙ sym c.requires.4))
     ]
 
 pub returns : goal.returns

@@ -40,14 +40,13 @@ put_slot-at-requires c =
     record { entry = u.entry; well_formed = u.well_formed; form = u.form; room = omega (arith, f.room, measured_within m u.at, c.loop-i.invariant.0) }
 
 pub loop-i-preserved : goal.loop-i-preserved
-loop-i-preserved c =
-    (
-      c.put_slot-at.auto.to ∙ c.loop-i.invariant.0,
-      λ t h.
-          let w = c.loop-i.invariant.1 t h in
-          let u = used_slot t _ h c.loop-i.i w.measured.low c.loop-i-test.true c.if-table-start-eq0.false in
-          written_more w u.at (c.put_slot-at.ensures u.entry u.well_formed u.form),
-    )
+loop-i-preserved c = (
+  c.put_slot-at.auto.to ∙ c.loop-i.invariant.0,
+  λ t h.
+      let w = c.loop-i.invariant.1 t h in
+      let u = used_slot t _ h c.loop-i.i w.measured.low c.loop-i-test.true c.if-table-start-eq0.false in
+      written_more w u.at (c.put_slot-at.ensures u.entry u.well_formed u.form),
+)
 
 pub shape_of-to : goal.shape_of-to
 shape_of-to c = c.loop-i.invariant.0

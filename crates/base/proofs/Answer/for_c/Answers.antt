@@ -1,6 +1,5 @@
 use mathlib.Core.Path.{ap}
 use native.Mathlib.Omega.{arith}
-use borrow.Author.Rules.{rules}
 use Rattle.base.specs.Answer.{number, In32Bits}
 use Rattle.base.proofs.Answer.for_c.Goals as goal
 

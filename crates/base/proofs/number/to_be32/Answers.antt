@@ -1,6 +1,5 @@
 use native.Mathlib.Nat.{div-one}
 use Rattle.base.specs.Bytes.{big_endian}
-use borrow.Author.Rules.{rules}
 use Rattle.base.proofs.number.to_be32.Goals as goal
 
 pub returns : goal.returns

@@ -1,8 +1,6 @@
-use Prim.Native.Nat.{◌-◌}
 use mathlib.Core.Path.{refl}
 use native.Mathlib.Omega.{arith}
-use lib.ListN.{length}
-use Rattle.base.proofs.Fill.{Copied, copied_none, copied_more, copied_all}
+use Rattle.base.proofs.Fill.{copied_none, copied_more, copied_all}
 use Rattle.base.proofs.slice.put.Goals as goal
 
 pub loop-i-init : goal.loop-i-init

@@ -1,8 +1,6 @@
 use Prim.Native.Nat.{◌-◌}
-use mathlib.Core.Path.{refl}
-use native.Mathlib.Omega.{arith}
 use lib.ListN.{length}
-use Rattle.base.proofs.Fill.{Copied, copied_none, copied_more, copied_all}
+use Rattle.base.proofs.Fill.{Copied}
 use Rattle.base.proofs.slice.put.Given as goal
 
 abbrev pub invariant-loop-i : goal.invariant-loop-i

@@ -52,10 +52,10 @@ loop-i-preserved c =
       omega arith,
       l.invariant.1
           ∙ elim c.if-left-eq0.branch [
-            then-left-eq0+else-b-eq0+else-b-gt-LONGEST_LABEL w ↦
+            | then-left-eq0+else-b-eq0+else-b-gt-LONGEST_LABEL w ↦
                 ap (λ (k : ℕ). accepts k (drop l.i n)) w.if-left-eq0.true ∙ at_label n l.i more w.if-b-eq0.false w.if-b-gt-LONGEST_LABEL.false
                 ∙ ap (λ (k : ℕ). accepts k (drop (l.i + 1) n)) (sym w.left-is)
-          | else-left-eq0+else-not-is_label_byte w ↦
+            | else-left-eq0+else-not-is_label_byte w ↦
                 at_byte n l.i more l.left w.if-left-eq0.false (sym w.is_label_byte.ensures ∙ w.if-not-is_label_byte.false)
                 ∙ ap (λ (k : ℕ). accepts k (drop (l.i + 1) n)) (sym w.left-is)
           ],

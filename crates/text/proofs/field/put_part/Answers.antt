@@ -40,7 +40,10 @@ pub returns : goal.returns
 returns c =
     let a = c.args in
     let is : length (preceded a.first a.separator a.part.now) ≡ suc (length a.part.now) = ap (λ (t : Bool). length (preceded t a.separator a.part.now)) c.if-first.false in
-    let within : a.at < length a.to.now = omega (arith, c.requires) in record { value = omega arith; to_after = c.put-2.ensures
+    let within : a.at < length a.to.now = omega (arith, c.requires) in record {
+      value = omega arith;
+      to_after = c.put-2.ensures
           ∙ ap (λ (l : List ℕ). overlay l (a.at + 1) a.part.now) (set_overlay a.to.now a.at a.separator within)
           ∙ overlay_append a.to.now a.at (a.separator ∷ []) a.part.now (omega arith)
-          ∙ ap (λ (t : Bool). overlay a.to.now a.at (preceded t a.separator a.part.now)) (sym c.if-first.false) }
+          ∙ ap (λ (t : Bool). overlay a.to.now a.at (preceded t a.separator a.part.now)) (sym c.if-first.false);
+    }

@@ -61,10 +61,10 @@ loop-i-preserved c =
     let usable = c.requires in
     let l = c.loop-i in
     elim c.if-b-separator.branch [
-      then-b-separator+else-digits-eq0+else-last-k w' ↦
+      | then-b-separator+else-digits-eq0+else-last-k w' ↦
           rw (w'.values-is, w'.k-is, w'.value-is, w'.digits-is)
           (scanning_next f usable w l.values l.k l.value l.digits l.i l.invariant (omega arith) w'.if-b-separator.true w'.if-digits-eq0.false (omega (arith, w'.if-last-k.false)))
-    | else-b-separator+else-next-eq-NONE w' ↦
+      | else-b-separator+else-next-eq-NONE w' ↦
           rw (w'.values-is, w'.k-is, w'.value-is, w'.digits-is)
           (scanning_digit f usable w l.values l.k l.value l.digits l.i l.invariant (omega arith) _ w'.if-b-separator.false
           (subst (Allowed f l.value l.digits) w'.digit_value.ensures (w'.with_digit-next.ensures.may w'.if-next-eq-NONE.false))

@@ -43,9 +43,9 @@ returns c =
             leading =
                 λ z some.
                 elim c.if-not-form.branch [
-                  then-not-form+then-digits-gt0+else-value-eq0 w ↦ omega (arith, w.if-value-eq0.false)
-                | then-not-form+else-digits-gt0 w ↦ absurd (omega (arith, w.if-digits-gt0.false))
-                | else-not-form w ↦ absurd (true≢false (sym (not-false _ w.if-not-form.false) ∙ z))
+                  | then-not-form+then-digits-gt0+else-value-eq0 w ↦ omega (arith, w.if-value-eq0.false)
+                  | then-not-form+else-digits-gt0 w ↦ absurd (omega (arith, w.if-digits-gt0.false))
+                  | else-not-form w ↦ absurd (true≢false (sym (not-false _ w.if-not-form.false) ∙ z))
                 ];
             small = omega arith;
           };
