@@ -11,7 +11,7 @@ pub returns-then-k-eq0 : goal.returns-then-k-eq0
 returns-then-k-eq0 c =
     let a = c.args in
     let e = c.end_in_memory in
-    subst (λ (n : ℕ). EndCutOff a.held.now a.behind.now a.name.now a.dhcid.now a.family a.address.now n a.held.now a.behind.now) (sym c.if-k-eq0.true) (end_cut_none a.held.now a.behind.now a.name.now a.dhcid.now a.family a.address.now e.result e.new.reverse.1.0 e.new.reverse.1.1.0 e.ensures)
+    subst (λ (n : ℕ). EndCutOff a.held.now a.behind.now a.name.now a.dhcid.now a.family a.address.now n a.held.now a.behind.now) (sym c.if-k-eq0.true) (end_cut_none a.held.now a.behind.now a.name.now a.dhcid.now a.family a.address.now e.result e.new.table e.new.reverse e.ensures)
 
 pub returns-then-k-eq1 : goal.returns-then-k-eq1
 returns-then-k-eq1 c =
@@ -20,7 +20,7 @@ returns-then-k-eq1 c =
     let e = c.end_in_memory in
     let stored = c.put.ensures ∙ all_over _ _ (search rules) in
     subst (λ (n : ℕ). EndCutOff a.held.now a.behind.now a.name.now a.dhcid.now a.family a.address.now n a.held.now c.put.new.to) (sym c.if-k-eq1.true)
-    (subst (λ (y : List ℕ). EndCutOff a.held.now a.behind.now a.name.now a.dhcid.now a.family a.address.now 1 a.held.now y) (sym stored) (end_cut_one a.held.now a.behind.now a.name.now a.dhcid.now a.family a.address.now e.result e.new.reverse.1.0 e.new.reverse.1.1.0 e.ensures))
+    (subst (λ (y : List ℕ). EndCutOff a.held.now a.behind.now a.name.now a.dhcid.now a.family a.address.now 1 a.held.now y) (sym stored) (end_cut_one a.held.now a.behind.now a.name.now a.dhcid.now a.family a.address.now e.result e.new.table e.new.reverse e.ensures))
 
 pub returns : goal.returns
 returns c =
@@ -32,4 +32,4 @@ returns c =
     let more : suc (suc (a.k - 2)) ≡ a.k = omega (arith, c.if-k-eq0.false, c.if-k-eq1.false) in
     subst (λ (n : ℕ). EndCutOff a.held.now a.behind.now a.name.now a.dhcid.now a.family a.address.now n c.put-2.new.to c.put.new.to) more
     (subst (λ (y : List ℕ). EndCutOff a.held.now a.behind.now a.name.now a.dhcid.now a.family a.address.now (suc (suc (a.k - 2))) y c.put.new.to) (sym then)
-    (subst (λ (y : List ℕ). EndCutOff a.held.now a.behind.now a.name.now a.dhcid.now a.family a.address.now (suc (suc (a.k - 2))) e.new.reverse.1.0 y) (sym first) (end_cut_both a.held.now a.behind.now a.name.now a.dhcid.now a.family a.address.now e.result e.new.reverse.1.0 e.new.reverse.1.1.0 e.ensures (a.k - 2))))
+    (subst (λ (y : List ℕ). EndCutOff a.held.now a.behind.now a.name.now a.dhcid.now a.family a.address.now (suc (suc (a.k - 2))) e.new.table y) (sym first) (end_cut_both a.held.now a.behind.now a.name.now a.dhcid.now a.family a.address.now e.result e.new.table e.new.reverse e.ensures (a.k - 2))))

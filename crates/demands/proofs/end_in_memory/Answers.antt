@@ -16,5 +16,5 @@ returns c =
     let e = c.vichrelka_lease_end in
     let table : c.put.new.to ≡ a.held.now = c.put.ensures ∙ all_over _ _ p.0 in
     let reverse : c.put-2.new.to ≡ a.behind.now = c.put-2.ensures ∙ all_over _ _ p.1 in
-    subst (λ (y : List ℕ). Tells e.result (λ r. Ends most_names most_addresses y a.behind.now a.name.now a.dhcid.now a.family a.address.now r e.new.table e.new.reverse.0)) table
-    (subst (λ (y : List ℕ). Tells e.result (λ r. Ends most_names most_addresses c.put.new.to y a.name.now a.dhcid.now a.family a.address.now r e.new.table e.new.reverse.0)) reverse e.ensures)
+    subst (λ (y : List ℕ). Tells e.result (λ r. Ends most_names most_addresses y a.behind.now a.name.now a.dhcid.now a.family a.address.now r e.new.table e.new.reverse)) table
+    (subst (λ (y : List ℕ). Tells e.result (λ r. Ends most_names most_addresses c.put.new.to y a.name.now a.dhcid.now a.family a.address.now r e.new.table e.new.reverse)) reverse e.ensures)
