@@ -1,16 +1,17 @@
 #!/usr/bin/env bash
 # The edits of crates/*/must-fail. An edit has one wrong program or several, with a blank line between them, each with a line `at: FUNCTION`: the function's folder below
-# proofs/ (of functions that call each other and have one proof, that proof's folder) and, where more is to be said, a second word, how the goal's name begins that refuses it; or of a
-# definition `at: FILE LAW`, a file proofs/FILE.antt and the law in it that no longer
-# holds. A wrong program that does not say where it is refused is a failure; what only changes the imports for another one need not. That rt refuses such an edit says that one of them is
-# refused. So each edit is tried here as rt tries it, and what `rt check` prints of it is kept (tests/edits.py), in target/tests/edits/logs/CRATE/EDIT.log; the log is asked that each is
-# refused: an error stands in the function's own proof, or is the law's, that is about a fact, not that something else
-# was not admitted, that a name is not known, that there is no such field, that a fact is of another form or that the prover met a limit. Of what `rt` proves by a
-# search, without an answer in the repository, that search must not have closed. A search waits for the proofs of what the function calls, and one wrong program may take from another
-# what its proof names: so a wrong program that is not refused so beside the others is tried alone, in EDIT.N.log, and has to be refused so there.
+# proofs/ (of functions that call each other and have one proof, that proof's folder) and, where more is to be said, a second word, the goal that refuses it (a `*` at its
+# end stands for the rest of a name); or of a definition `at: FILE LAW`, a file proofs/FILE.antt and the law in it that no longer holds. A wrong program that does not
+# say where it is refused is a failure; what only changes the imports for another one need not. That rt refuses such an edit says that one of them is refused. So each
+# edit is tried here as rt tries it (tests/edits.py), and what `rt check` prints of it is kept, in target/tests/edits/logs/CRATE/EDIT.log. The log is asked that each is
+# refused: an error stands in the function's own proof, or is the law's, that is about a fact, not that something else was not admitted, that a name is not known, that
+# there is no such field, that a fact is of another form or that the prover met a limit. Of a goal without an answer in the repository, which `rt` proves by a search,
+# that search must not have closed. Where another test in the code gives a goal another name, rt must have found that it is false.
+# A search waits for the proofs of what the function calls, and one wrong program may take from another what its proof names: so a wrong program that is not refused so
+# beside the others is tried alone, in EDIT.N.log, and has to be refused there.
 #
-#   bash tests/edits.sh              minutes the first time; what was tried, and has not changed since, is not tried again
-#   bash tests/edits.sh CRATE..      those of these crates
+#   bash tests/edits.sh              what was tried, and has not changed since with all that it stands on, is not tried again
+#   bash tests/edits.sh CRATE..      the wrong programs of these crates
 #
 # Last line: `N passed, M failed`, counting wrong programs; what tells them apart is tried first, and a slip of it is a failure.
 set -uo pipefail
@@ -50,22 +51,33 @@ places() {
 # no errors of a fact: what is not known, what was not looked at, what has another form, where the prover stopped
 no_fact='can be named from here|was not admitted|was rejected, was not checked|is not in scope|has no field|is applied to an argument but has type|antt ran out of |outgrew the memory limit'
 
+# errors LOG FILE: the errors that stand in a file
+errors() {
+  awk -v file="./$2:" 'index($0, file) == 1 && substr($0, length(file) + 1) ~ /^[0-9]+:[0-9]+: error: /' "$1"
+}
+
 # refusals CRATE FOLDER GOAL LOG: the lines of the log that are this function's, or this law's, own refusals
 refusals() {
+  local goal=\`$3 own="fn $1::${2//\//::}: "
+  case $3 in
+  '') ;;
+  *'*') goal=${goal%'*'} ;;
+  *) goal=$goal\` ;;
+  esac
   if [ -f "crates/$1/proofs/$2.antt" ]; then
-    grep -aF "./proofs/$2.antt:" "$4" | grep -aE "^[^ ]*:[0-9]+:[0-9]+: error: " | grep -aF ": error: \`$3\`: " | grep -avE "$no_fact"
-  else
-    grep -aF -e "./proofs/$2/Answers.antt:" -e "./proofs/$2/Invariants.antt:" "$4" | grep -aE "^[^ ]*:[0-9]+:[0-9]+: error: " | grep -aF ": error: \`$3" | grep -avE "$no_fact"
-    # a goal without an answer, since it has another name than in the right program: that it is false where all holds that is known there, which an invariant that is no longer read may lack
-    if ! grep -aF "./proofs/$2/Invariants.antt:" "$4" | grep -qaE "^[^ ]*:[0-9]+:[0-9]+: error: "; then
-      awk -v own="fn $1::${2//\//::}: " -v goal="(\`$3" '
-        index($0, own) == 1 { printf "%s", told }
-        /^[a-z]+ [a-z0-9_]+::/ { told = "" }
-        /^note: src\/.* the facts known there allow values at which this goal is false$/ && index($0, goal) { told = told $0 "\n" }' "$4"
-    fi
-    # what it does not prove is listed behind the word, and then what the function calls that is not proved
-    grep -aF "fn $1::${2//\//::}: no proof: " "$4" | sed -n 's/.*; `search` did not prove \([^;]*\).*/, \1/p' | grep -aF ", \`$3"
+    errors "$4" "proofs/$2.antt" | grep -aF ": error: $goal" | grep -avE "$no_fact"
+    return
   fi
+  { errors "$4" "proofs/$2/Answers.antt" && errors "$4" "proofs/$2/Invariants.antt"; } | grep -aF ": error: $goal" | grep -avE "$no_fact"
+  # what rt notes of a function stands before the function's line; it knows less than it might where an invariant is not read
+  if [ -z "$(errors "$4" "proofs/$2/Invariants.antt")" ]; then
+    awk -v own="$own" -v goal="($goal" '
+      index($0, own) == 1 { printf "%s", told }
+      /^[a-z]+ [a-z0-9_]+::/ { told = "" }
+      /^note: src\/.* the facts known there allow values at which this goal is false$/ && index($0, goal) { told = told $0 "\n" }' "$4"
+  fi
+  # behind the goals that a search did not close may stand what the function calls
+  awk -v own="${own}no proof: " 'index($0, own) == 1' "$4" | sed -n 's/.*; `search` did not prove \([^;]*\).*/, \1/p' | grep -aF ", $goal"
 }
 
 out=target/tests/edits
@@ -91,13 +103,18 @@ asked() {
   local what_for=$1 folder=$2 goal=$3 expected=$4
   shift 4
   printf '%s\n' "$@" >"$out/tried.log"
-  is "$what_for" "$expected" "$(refusals tried "$folder" "$goal" "$out/tried.log" | wc -l)"
+  local told
+  told=$(refusals "${crate:-tried}" "$folder" "$goal" "$out/tried.log" | wc -l)
+  [ "$told" -eq "$expected" ] || fail "$what_for: expected $expected lines, but what is told is $told"
 }
+crate=
 answers=./proofs/table/add/Answers.antt:13:40
 asked "an answer that is refused" table/add "" 1 "$answers: error: \`returns\`: \`omega\`: the goal does not follow from what it read"
 asked "a loop's invariant" table/add "" 1 "./proofs/table/add/Invariants.antt:9:1: error: \`invariant-loop-i\`: expected type \`A\`, but this has type \`B\`"
-asked "the goal that is named" table/add returns-then 1 "$answers: error: \`returns-then-b-eq0\`: expected type \`A\`, but this has type \`B\`"
-asked "another goal than the one that is named" table/add loop-i 0 "$answers: error: \`returns-then-b-eq0\`: expected type \`A\`, but this has type \`B\`"
+asked "the goal that is named" table/add returns-then-b-eq0 1 "$answers: error: \`returns-then-b-eq0\`: expected type \`A\`, but this has type \`B\`"
+asked "how the goal's name begins" table/add 'returns-then-*' 1 "$answers: error: \`returns-then-b-eq0\`: expected type \`A\`, but this has type \`B\`"
+asked "a goal whose name only begins so" table/add returns 0 "$answers: error: \`returns-then-b-eq0\`: expected type \`A\`, but this has type \`B\`"
+asked "another goal than the one that is named" table/add 'loop-i*' 0 "$answers: error: \`returns-then-b-eq0\`: expected type \`A\`, but this has type \`B\`"
 asked "another function's answer" table/add "" 0 "./proofs/table/add_one/Answers.antt:13:40: error: \`returns\`: expected type \`A\`, but this has type \`B\`" \
   "./proofs/other/table/add/Answers.antt:13:40: error: \`returns\`: expected type \`A\`, but this has type \`B\`"
 asked "a note" table/add "" 0 "$answers: note: \`simp\` made 1 round(s) on the goal" "fn tried::table::add: not proved"
@@ -109,21 +126,24 @@ asked "what something else took with it" table/add "" 0 "$answers: error: 1 decl
 asked "a fact of another form" table/add "" 0 "$answers: error: \`returns\`: this is applied to an argument but has type \`n ≤ 5\`"
 asked "a limit of the prover" table/add "" 0 "$answers: error: \`returns\`: antt ran out of the steps that the check of one declaration may take"
 false='note: src/lib.rt:9:5: it is not proved that what the function ensures holds when it returns (`returns-then-b`); the facts known there allow values at which this goal is false'
-asked "a goal that rt finds false" table/add returns 1 "fn tried::table::one: proved" "$false" "note: to see how far" "fn tried::table::add: not proved"
-asked "another goal than the one that rt finds false" table/add loop-i 0 "$false" "fn tried::table::add: not proved"
+asked "a goal that rt finds false" table/add 'returns-then-*' 1 "fn tried::table::one: proved" "$false" "note: to see how far" "fn tried::table::add: not proved"
+asked "another goal than the one that rt finds false" table/add returns 0 "$false" "fn tried::table::add: not proved"
 asked "a goal that rt finds false, of another function" table/add "" 0 "$false" "fn tried::table::one: not proved" "note: to see how far" "fn tried::table::add: not proved"
 asked "a goal that rt finds false, without the invariant" table/add "" 0 "./proofs/table/add/Invariants.antt:9:1: error: module \`A\` has no \`a\` that can be named from here" \
   "$false" "fn tried::table::add: not proved"
 asked "a goal that the search gave up" table/add "" 0 "${false/the facts*/\`search\` gave up at one of its limits}" "fn tried::table::add: not proved"
 search='no proof: expected answers in ./proofs/table/add/Answers.antt; `search` did not prove `overflow_add-n`, `returns-then-b-eq0`'
 asked "a search that does not close" table/add "" 1 "fn tried::table::add: $search"
-asked "the goal that it does not close" table/add returns 1 "fn tried::table::add: $search; it calls \`tried::two\`, which is not proved"
-asked "another goal than the one that it does not close" table/add loop-i 0 "fn tried::table::add: $search"
+asked "the goal that it does not close" table/add returns-then-b-eq0 1 "fn tried::table::add: $search; it calls \`tried::two\`, which is not proved"
+asked "how the name of the goal begins that it does not close" table/add 'overflow_*' 1 "fn tried::table::add: $search"
+asked "another goal than the one that it does not close" table/add returns 0 "fn tried::table::add: $search"
 asked "another function's search" add "" 0 "fn tried::table::add: $search"
 asked "a search that waits" table/add "" 0 "fn tried::table::add: no proof: it calls \`tried::two\`, which is not proved"
-law=$(basename "$(find crates/base/proofs -maxdepth 1 -name '*Laws.antt' | LC_ALL=C sort | head -n 1)" .antt)
-is "a law" 1 "$(refusals base "$law" one <(echo "./proofs/$law.antt:9:3: error: \`one\`: expected type \`A\`, but this has type \`B\`") | wc -l)"
-is "another law" 0 "$(refusals base "$law" one <(echo "./proofs/$law.antt:9:3: error: \`one_more\`: expected type \`A\`, but this has type \`B\`") | wc -l)"
+crate=base
+law=$(basename "$(find crates/$crate/proofs -maxdepth 1 -name '*Laws.antt' | LC_ALL=C sort | head -n 1)" .antt)
+asked "a law" "$law" one 1 "./proofs/$law.antt:9:3: error: \`one\`: expected type \`A\`, but this has type \`B\`"
+asked "another law" "$law" one 0 "./proofs/$law.antt:9:3: error: \`one_more\`: expected type \`A\`, but this has type \`B\`"
+asked "a law that cites one that does not hold" "$law" one 0 "./proofs/$law.antt:9:3: error: 1 declaration that depends on \`two\`, which was rejected, was not checked: one"
 
 logs=$out/logs
 # tried CRATE LABEL LOG: what was tried came to a verdict
