@@ -1,6 +1,7 @@
 -- What stands next in a listing that can be printed, as the check and the step have found it: all that the program takes from their promises. Assumes nothing.
 use Prim.Native.Nat.{ℕ, ◌≤◌, ◌<◌}
-use mathlib.Core.Path.{◌≡◌, ap, subst, ◌∙◌}
+use mathlib.Core.Path.{◌≡◌, refl, ap, subst, ◌∙◌}
+use mathlib.Core.Logic.{inl, inr}
 use mathlib.Core.List.{List, [], ◌∷◌}
 use types.Run.{OneOf}
 use denote.Enum.Declared.{tag_of}
@@ -15,6 +16,7 @@ use Rattle.writer.specs.Line.{WellFormedRecord, Holds}
 use Rattle.writer.proofs.Theorems.{spelled_well_formed}
 use Rattle.listing.specs.Reading.{Checks}
 use Rattle.listing.specs.Giving.{end, Gives, whole, StepIs}
+use Rattle.listing.specs.declared.Found.{Found}
 use Rattle.listing.specs.declared.Found.TheVariants
 use Rattle.listing.specs.declared.Step.{Step}
 use Rattle.listing.specs.contracts.Found.{the_type}
@@ -43,6 +45,12 @@ pub record NextIs (t : List ℕ) (at : ℕ) (s : Step) : Type 0 where
   pub on : at < s.next
   pub goes_on : Gives t s.next rest end
 
+-- what is not a record is the end or a refusal
+others : (f : Found) → (f ≡ TheVariants.Record → ⊥) → OneOf (1 ∷ 2 ∷ []) (tag_of the_type f)
+others TheVariants.Record no_record = absurd (no_record refl)
+others TheVariants.End no_record = inl refl
+others (TheVariants.Refused number offset) no_record = inr refl
+
 module _ (t : List ℕ) (at : ℕ) (p : Printable t at) (s : Step) (is : StepIs t at s) where
   pub next_record : s.found ≡ TheVariants.Record → NextIs t at s
   next_record q =
@@ -51,8 +59,8 @@ module _ (t : List ℕ) (at : ℕ) (p : Printable t at) (s : Step) (is : StepIs 
       record { head = n.head; rest = n.rest; given = g; holds = record { form = n.holds; well_formed = first_well_formed g }; on = n.on; goes_on = n.goes_on }
 
   -- no record stands next, and a refusal cannot
-  pub next_none : OneOf (1 ∷ 2 ∷ []) (tag_of the_type s.found) → Gives t at [] end
-  next_none other = subst (λ (rs : List ResourceRecord). Gives t at rs end) (none_left t at s is p.0 p.1 other).order p.1
+  pub next_none : (s.found ≡ TheVariants.Record → ⊥) → Gives t at [] end
+  next_none other = subst (λ (rs : List ResourceRecord). Gives t at rs end) (none_left t at s is p.0 p.1 (others s.found other)).order p.1
 
 -- at the end of the text none is left either
 pub none_after : {t : List ℕ} {at to : ℕ} {rs : List ResourceRecord} → Gives t at rs end → length t ≤ to → Gives t to [] end

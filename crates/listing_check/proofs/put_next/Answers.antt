@@ -18,4 +18,4 @@ returns-in-Record c =
 
 pub returns-in_default : goal.returns-in_default
 returns-in_default c =
-    none (next_none c.args.text.now c.args.at c.requires.printable c.step_at-step.result c.step_at-step.ensures c.in_default.in_default-own.keys2) refl refl refl
+    none (next_none c.args.text.now c.args.at c.requires.printable c.step_at-step.result c.step_at-step.ensures c.in_default.not-Record) refl refl refl
