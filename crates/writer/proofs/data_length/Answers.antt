@@ -25,4 +25,4 @@ returns-in-28 c =
 pub returns-in_default : goal.returns-in_default
 returns-in_default c =
     let bs = c.args.rdata.now in
-    sym (ap length (rdata_dhcid c.args.rtype bs c.in_default.in_default-own.rest.0.1 c.in_default.in_default-own.rest.1) ∙ length_base64 bs c.requires)
+    sym (ap length (rdata_dhcid c.args.rtype bs (λ e. omega arith) (λ e. omega arith)) ∙ length_base64 bs c.requires)

@@ -31,7 +31,7 @@ pub put_base64-requires : goal.put_base64-requires
 put_base64-requires c =
     let bs = c.args.rdata.now in (
       c.requires.rdata_len,
-      omega (arith, ap length (rdata_dhcid c.args.rtype bs c.in_default.in_default-own.rest.0.1 c.in_default.in_default-own.rest.1), length_base64 bs c.requires.rdata_len),
+      omega (arith, ap length (rdata_dhcid c.args.rtype bs (λ e. omega arith) (λ e. omega arith)), length_base64 bs c.requires.rdata_len),
     )
 
 pub returns-in-1 : goal.returns-in-1
@@ -47,4 +47,4 @@ returns-in-28 c =
 pub returns-in_default : goal.returns-in_default
 returns-in_default c =
     let bs = c.args.rdata.now in
-    let is = rdata_dhcid c.args.rtype bs c.in_default.in_default-own.rest.0.1 c.in_default.in_default-own.rest.1 in record { value = omega (arith, ap length is, length_base64 bs c.requires.rdata_len); to_after = rw is c.put_base64.ensures }
+    let is = rdata_dhcid c.args.rtype bs (λ e. omega arith) (λ e. omega arith) in record { value = omega (arith, ap length is, length_base64 bs c.requires.rdata_len); to_after = rw is c.put_base64.ensures }

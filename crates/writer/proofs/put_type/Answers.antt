@@ -15,7 +15,7 @@ put-requires-in-28 c =
 
 pub put-requires-in_default : goal.put-requires-in_default
 put-requires-in_default c =
-    omega (arith, ap length (type_dhcid c.args.rtype c.in_default.in_default-own.rest.0.1 c.in_default.in_default-own.rest.1))
+    omega (arith, ap length (type_dhcid c.args.rtype (λ e. omega arith) (λ e. omega arith)))
 
 pub returns-in-1 : goal.returns-in-1
 returns-in-1 c =
@@ -27,4 +27,4 @@ returns-in-28 c =
 
 pub returns-in_default : goal.returns-in_default
 returns-in_default c =
-    rw (type_dhcid c.args.rtype c.in_default.in_default-own.rest.0.1 c.in_default.in_default-own.rest.1) c.put-in_default.ensures
+    rw (type_dhcid c.args.rtype (λ e. omega arith) (λ e. omega arith)) c.put-in_default.ensures
