@@ -1,7 +1,7 @@
 """The edits of crates/*/must-fail, each tried on a copy of the repository, for tests/edits.sh.
 
     python3 -B tests/edits.py LOGS [CRATE..]       LOGS/CRATE/EDIT.log is what `rt check` prints of the crate with all wrong programs of the edit; of these crates, or of all
-    python3 -B tests/edits.py --alone LOGS <LIST   of each line CRATE EDIT N: LOGS/CRATE/EDIT.N.log, with the Nth wrong program alone, and what only changes imports
+    python3 -B tests/edits.py --part LOGS <LIST    of each line CRATE EDIT N,N: LOGS/CRATE/EDIT.N-N.log, with the Nth wrong programs alone, and what only changes imports
 
 `rt ci` says whether an edit is refused, and not where; and of what it says it keeps one line. So the edits are applied here as rt applies them: a line `file: ` is for all pairs
 behind it, each old text stands there once, and a pair applies to what those before it made. That is done in copies, one for each process at work, which stand outside the repository,
@@ -89,13 +89,15 @@ def whole_edits(logs, crates):
     return tasks
 
 
-def lone_programs(logs, lines):
+def parts_of_edits(logs, lines):
+    """Of each line some wrong programs of an edit."""
     tasks = []
-    for crate, label, number in (line.split() for line in lines):
+    for crate, label, numbers in (line.split() for line in lines):
         programs = read_edit(f"crates/{crate}/must-fail/{label}.edit")
-        wrong = [program for program in programs if program.is_wrong][int(number) - 1]
-        pairs = [pair for program in programs if program is wrong or not program.is_wrong for pair in program.pairs]
-        tasks.append(Task(crate, f"{logs}/{crate}/{label}.{number}.log", pairs))
+        wrong = [program for program in programs if program.is_wrong]
+        asked = [wrong[int(number) - 1] for number in numbers.split(",")]
+        pairs = [pair for program in programs if program in asked or not program.is_wrong for pair in program.pairs]
+        tasks.append(Task(crate, f"{logs}/{crate}/{label}.{numbers.replace(',', '-')}.log", pairs))
     return tasks
 
 
@@ -247,21 +249,21 @@ def try_all(repository, tasks):
 def main():
     sys.stdout.reconfigure(encoding="utf-8")
     signal.signal(signal.SIGTERM, lambda *_: sys.exit(1))
-    is_alone, words = sys.argv[1] == "--alone", sys.argv[1:]
-    logs, named = words[is_alone], words[is_alone + 1 :]
+    is_part, words = sys.argv[1] == "--part", sys.argv[1:]
+    logs, named = words[is_part], words[is_part + 1 :]
     repository = Repository()
     strange = [crate for crate in named if crate not in repository.uses]
     if strange:
         print(f"edits: {strange[0]} is no crate of crates.txt")
         return 1
-    tasks = lone_programs(logs, sys.stdin.read().splitlines()) if is_alone else whole_edits(logs, named)
+    tasks = parts_of_edits(logs, sys.stdin.read().splitlines()) if is_part else whole_edits(logs, named)
     for task in tasks:
         task.sum = repository.sum(task)
     tasks = [task for task in tasks if not is_tried(task)]
     if not tasks:
         return 0
-    # what is tried alone was tried in one edit before, when all was proved
-    if not is_alone and not prepare(named):
+    # a part of an edit comes behind the whole, for which all was proved
+    if not is_part and not prepare(named):
         return 1
     return 0 if try_all(repository, tasks) else 1
 

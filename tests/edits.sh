@@ -7,8 +7,8 @@
 # refused: an error stands in the function's own proof, or is the law's, that is about a fact, not that something else was not admitted, that a name is not known, that
 # there is no such field, that a fact is of another form or that the prover met a limit. Of a goal without an answer in the repository, which `rt` proves by a search,
 # that search must not have closed. Where another test in the code gives a goal another name, rt must have found that it is false.
-# A search waits for the proofs of what the function calls, and one wrong program may take from another what its proof names: so a wrong program that is not refused so
-# beside the others is tried alone, in EDIT.N.log, and has to be refused there.
+# A search waits for the proofs of what the function calls, and one wrong program may take from another what its proof names: so those that are not refused so beside the
+# others are tried without these, in EDIT.N-N.log, and what is left then each alone, in EDIT.N.log.
 #
 #   bash tests/edits.sh              what was tried, and has not changed since with all that it stands on, is not tried again
 #   bash tests/edits.sh CRATE..      the wrong programs of these crates
@@ -146,47 +146,68 @@ asked "another law" "$law" one 0 "./proofs/$law.antt:9:3: error: \`one_more\`: e
 asked "a law that cites one that does not hold" "$law" one 0 "./proofs/$law.antt:9:3: error: 1 declaration that depends on \`two\`, which was rejected, was not checked: one"
 
 logs=$out/logs
-# tried CRATE LABEL LOG: what was tried came to a verdict
-tried() {
-  [ -f "$3" ] && tail -n 1 "$3" | grep -q '^edits: tried, ' && return
-  fail "$1/$2 was not tried: see $3"
-  return 1
+left=$out/left
+# ask: each line of `left`, CRATE EDIT N FOLDER GOAL, asks the log CRATE/EDIT.log, with what `part` has behind the edit's name; what is refused there is no longer left
+ask() {
+  local crate label number folder goal log
+  mv "$left" "$left.before"
+  while read -r crate label number folder goal; do
+    log=$logs/$crate/$label${part[$crate $label $number]-}.log
+    if [ ! -f "$log" ] || ! tail -n 1 "$log" | grep -q '^edits: tried, '; then
+      fail "$crate/$label: the wrong program at $folder $goal was not tried: see $log"
+    elif [ -n "$(refusals "$crate" "$folder" "$goal" "$log")" ]; then
+      pass
+    else
+      echo "$crate $label $number $folder $goal" >>"$left.now"
+    fi
+  done <"$left.before"
+  cat "$left.now" >"$left" 2>/dev/null || : >"$left"
+  rm -f "$left.now"
 }
 
-edits=()
+# the wrong programs of an edit that are left, with commas between, and how many the edit has
+declare -A part=() beside=() programs=()
+: >"$left"
+rm -f "$left.now"
 for edit in crates/*/must-fail/*.edit; do
   crate=${edit#crates/}
   crate=${crate%%/*}
-  if [ $# -eq 0 ] || [[ " $* " == *" $crate "* ]]; then edits+=("$edit"); fi
-done
-python3 -B tests/edits.py "$logs" "$@" || fail "not every edit was tried"
-
-: >"$out/alone"
-for edit in "${edits[@]}"; do
-  crate=${edit#crates/}
-  crate=${crate%%/*}
+  [ $# -eq 0 ] || [[ " $* " == *" $crate "* ]] || continue
   label=$(basename "$edit" .edit)
   while read -r first; do
     fail "$crate/$label: a line \`at: \` has to say where it is refused: $first"
   done < <(unsaid "$edit")
-  tried "$crate" "$label" "$logs/$crate/$label.log" || continue
   while read -r number folder goal; do
-    if [ -n "$(refusals "$crate" "$folder" "$goal" "$logs/$crate/$label.log")" ]; then
-      pass
-    else
-      echo "$crate $label $number $folder $goal" >>"$out/alone"
-    fi
+    echo "$crate $label $number $folder $goal" >>"$left"
+    programs[$crate $label]=$number
   done < <(places "$edit")
 done
+python3 -B tests/edits.py "$logs" "$@" || fail "not every edit was tried"
+ask
 
-cut -d ' ' -f 1-3 "$out/alone" | uniq | python3 -B tests/edits.py --alone "$logs" || fail "not every wrong program was tried alone"
+while read -r crate label number _; do
+  case ,${beside[$crate $label]-}, in
+  *",$number,"*) ;;
+  *) beside[$crate $label]=${beside[$crate $label]+${beside[$crate $label]},}$number ;;
+  esac
+done <"$left"
+for edit in "${!beside[@]}"; do
+  numbers=${beside[$edit]}
+  # all of them together was tried
+  [ "$(tr -cd , <<<"$numbers" | wc -c)" -ge $((programs[$edit] - 1)) ] && continue
+  echo "$edit $numbers"
+  for number in ${numbers//,/ }; do part[$edit $number]=.${numbers//,/-}; done
+done >"$out/parts"
+python3 -B tests/edits.py --part "$logs" <"$out/parts" || fail "not every wrong program was tried without the others"
+ask
+
+cut -d ' ' -f 1-3 "$left" | uniq | while read -r crate label number; do
+  [ "${programs[$crate $label]}" -eq 1 ] || echo "$crate $label $number"
+done >"$out/parts"
+while read -r crate label number; do part[$crate $label $number]=.$number; done <"$out/parts"
+python3 -B tests/edits.py --part "$logs" <"$out/parts" || fail "not every wrong program was tried alone"
+ask
 while read -r crate label number folder goal; do
-  log=$logs/$crate/$label.$number.log
-  tried "$crate" "$label, number $number alone" "$log" || continue
-  if [ -n "$(refusals "$crate" "$folder" "$goal" "$log")" ]; then
-    pass
-  else
-    fail "$crate/$label: the wrong program at $folder $goal is not refused by itself: see $log"
-  fi
-done <"$out/alone"
+  fail "$crate/$label: the wrong program at $folder $goal is not refused by itself: see $logs/$crate/$label${part[$crate $label $number]-}.log"
+done <"$left"
 finish
