@@ -5,5 +5,4 @@ use Rattle.listing_check.proofs.print_answer.Goals as goal
 pub print_records-requires : goal.print_records-requires
 print_records-requires c =
     let t = c.args.text.now in
-    let n = c.enum_told-1.given in
-    record { printable = accepted_printable t c.check.result _ c.check.ensures n.1; longest_line_in_bounds = search rules }
+    record { printable = accepted_printable t c.check.result _ c.check.ensures c.in-Accepted.is; longest_line_in_bounds = search rules }
