@@ -21,7 +21,8 @@ use Rattle.reverse.specs.Promise.{place}
 use Rattle.reverse.proofs.SideLaws.{has_place_lem}
 use Rattle.leases.specs.Plan.{Sides, Plan, written_all, uncut, refused_plan, lease_by, end_by, lease_plan, end_plan}
 use Rattle.leases.proofs.AddLaws.{Added, added}
-use Rattle.leases.proofs.PlanLaws.{sides, lease_by_lem, lease_full, end_by_lem}
+use Rattle.leases.proofs.PlanCases.{sides, lease_by_lem, end_by_lem}
+use Rattle.leases.proofs.PlanLaws.{lease_full}
 use Rattle.lease_calls.specs.Promise.{CarriedOut, behind_add}
 
 -- a remove that is decided to be carried out is not refused

@@ -22,38 +22,8 @@ use Rattle.reverse.proofs.Theorems.{one_reverse, one_sound_reverse}
 use Rattle.leases.specs.Plan.{Sides, Plan, written_first, written_all, after, uncut, lease_plan, end_plan}
 use Rattle.leases.specs.Calls.{sides_of, lease_tests, end_tests, CalledOn, Leases, Ends}
 use Rattle.leases.specs.Cuts.{CutOff, LeaseCut, EndCut, SecondLease, SecondEnd}
-use Rattle.leases.proofs.PlanLaws.{
-  sides,
-  Leasing,
-  leasing,
-  lease_mends,
-  lease_first,
-  lease_all,
-  refused_stays,
-  lease_between,
-  lease_has_address,
-  lease_behind,
-  lease_names,
-  lease_others,
-  second_lease_refused,
-  second_lease_held,
-  Ending,
-  ending,
-  end_first,
-  end_all,
-  end_stays,
-  end_stays_whole,
-  end_between,
-  end_mends,
-  end_names,
-  end_leaves,
-  end_not_behind,
-  end_others,
-  second_end_refused,
-  second_end_between,
-  SecondAnswer,
-  second_end_done,
-}
+use Rattle.leases.proofs.PlanCases.{sides, lease_first, end_first}
+use Rattle.leases.proofs.PlanLaws.{Leasing, leasing, lease_mends, lease_all, refused_stays, lease_between, lease_has_address, lease_behind, lease_names, lease_others, second_lease_refused, second_lease_held, Ending, ending, end_all, end_stays, end_stays_whole, end_between, end_mends, end_names, end_leaves, end_not_behind, end_others, second_end_refused, second_end_between, SecondAnswer, second_end_done}
 use Rattle.leases.proofs.CutLaws.{Two}
 use Rattle.leases.proofs.RunLaws.{table_sound, reverse_names, form_of, all_done, Again, again, was_planned}
 use Rattle.leases.proofs.LeaseLaws.{lease_mendable, end_mendable}

@@ -26,7 +26,9 @@ use Rattle.reverse.specs.Form.{WellFormed, reverse_bytes, SoundReverse}
 use Rattle.reverse.proofs.EntryLaws.{every_placed, every_taken, room_placed, length_taken, single_placed, single_taken}
 use Rattle.leases.specs.Plan.{Sides, Plan, written_first, written_all, after, uncut, lease_plan, end_plan}
 use Rattle.leases.specs.Calls.{sides_of, sides_tests, lease_tests, end_tests, Leases, Ends}
-use Rattle.leases.proofs.PlanLaws.{sides, Leasing, leasing, lease_full, lease_forward, lease_mends, lease_first, lease_both, refused_stays, Ending, ending, end_forward, end_mends, end_first, end_both, end_stays}
+use Rattle.leases.proofs.HoldLaws.{again_hold}
+use Rattle.leases.proofs.PlanCases.{sides, lease_first, end_first}
+use Rattle.leases.proofs.PlanLaws.{Leasing, leasing, lease_full, lease_forward, lease_mends, lease_both, refused_stays, Ending, ending, end_forward, end_mends, end_both, end_stays}
 use Rattle.leases.proofs.RunLaws.{SoundSides, Mendable, was_planned}
 
 -- the lists of sound sides are sound
@@ -52,10 +54,6 @@ module _ {limit places : ℕ} {s : Sides} (h : SoundSides limit places s) where
 -- ---- what is tested is of both sides, and of nothing else that a run changes
 
 module _ (limit places : ℕ) (Known : Type 0) (name dhcid : List ℕ) (family : ℕ) (address : List ℕ) where
-  again_hold : (b c b' c' : List ℕ) → AllHold (sides_tests limit places Known b c name dhcid family address) → Sound limit b' → SoundReverse places c'
-      → AllHold (sides_tests limit places Known b' c' name dhcid family address)
-  again_hold b c b' c' h t u = (h.0, ((t, u), h.1.1))
-
   -- the forward step's own tests, where the reverse side is sound
   forward_hold : (b c : List ℕ) → AllHold (sides_tests limit places Known b c name dhcid family address) → AllHold (argument_tests limit Known b name dhcid family address)
   forward_hold b c h = (h.0, (h.1.0.0, h.1.1))

@@ -1,8 +1,10 @@
 pub mod AddLaws
 pub mod RemovalLaws
 pub mod CutLaws
+pub mod PlanCases
 pub mod PlanLaws
 pub mod RunLaws
+pub mod HoldLaws
 pub mod LeaseLaws
 pub mod CallLaws
 pub mod AgainLaws

@@ -22,9 +22,7 @@ use Rattle.leases.specs.Plan.{Sides, Write, Plan, written_first, written_all, af
 use Rattle.leases.proofs.AddLaws.{Holds, holds_address, add_holder, Added, added}
 use Rattle.leases.proofs.RemovalLaws.{Afterwards, Removed, removal}
 use Rattle.leases.proofs.CutLaws.{OneOf, Two, one_of, both_done, Mends, mended}
-
-abbrev pub sides : List TableEntry → List ReverseEntry → Sides
-sides t rs = record { table = t; names = rs }
+use Rattle.leases.proofs.PlanCases.{sides, lease_by_lem, lease_first, end_by_lem, end_first}
 
 -- ==== a lease
 
@@ -34,14 +32,6 @@ module _ (limit places : ℕ) (n d : List ℕ) (f : Family) (x : List ℕ) (poli
     refused : (m : ℕ) → lease_plan limit places n d f x policy s ≡ refused_plan m → Leasing s
     accepted : (v : ℕ) (u : List TableEntry) → has_place places f x s.names ≡ true → add limit eq_bytes s.table n d f x policy ≡ accepted_with v u → Holds u n d f x
         → lease_plan limit places n d f x policy s ≡ lease_by (accepted_with v u) (placed f x n s.names) → Leasing s
-
-  -- where there is a place, by the add
-  pub lease_by_lem : (s : Sides) (o : StepOutcome (List ℕ)) → has_place places f x s.names ≡ true → add limit eq_bytes s.table n d f x policy ≡ o
-      → lease_plan limit places n d f x policy s ≡ lease_by o (placed f x n s.names)
-  unfolding lease_plan
-  lease_by_lem s o has e =
-      ap (λ (b : Bool). cond b (lease_by (add limit eq_bytes s.table n d f x policy) (placed f x n s.names)) (refused_plan reverse_full)) has
-      ∙ ap (λ (w : StepOutcome (List ℕ)). lease_by w (placed f x n s.names)) e
 
   pub lease_full : (s : Sides) → has_place places f x s.names ≡ false → lease_plan limit places n d f x policy s ≡ refused_plan reverse_full
   unfolding lease_plan
@@ -56,18 +46,18 @@ module _ (limit places : ℕ) (n d : List ℕ) (f : Family) (x : List ℕ) (poli
       go : Added s.table n d f x (add limit eq_bytes s.table n d f x policy)
           → ((lease_plan limit places n d f x policy s).answer ≡ (add limit eq_bytes s.table n d f x policy).answer) × ((uncut (lease_plan limit places n d f x policy s) s).table ≡ (add limit eq_bytes s.table n d f x policy).table)
       go (Added.refused m e) =
-          let p = lease_by_lem s (refused_with m s.table) has e in
+          let p = lease_by_lem limit places n d f x policy s (refused_with m s.table) has e in
           (ap (λ (q : Plan). q.answer) p ∙ sym (ap (λ (o : StepOutcome (List ℕ)). o.answer) e), ap (λ (q : Plan). (uncut q s).table) p ∙ sym (ap (λ (o : StepOutcome (List ℕ)). o.table) e))
       go (Added.accepted v u e h) =
-          let p = lease_by_lem s (accepted_with v u) has e in
+          let p = lease_by_lem limit places n d f x policy s (accepted_with v u) has e in
           (ap (λ (q : Plan). q.answer) p ∙ sym (ap (λ (o : StepOutcome (List ℕ)). o.answer) e), ap (λ (q : Plan). (uncut q s).table) p ∙ sym (ap (λ (o : StepOutcome (List ℕ)). o.table) e))
 
   pub leasing : (s : Sides) → Leasing s
   leasing s = by_place (has_place places f x s.names) refl
     where
       by_add : has_place places f x s.names ≡ true → Added s.table n d f x (add limit eq_bytes s.table n d f x policy) → Leasing s
-      by_add has (Added.refused m e) = Leasing.refused m (lease_by_lem s (refused_with m s.table) has e)
-      by_add has (Added.accepted v u e h) = Leasing.accepted v u has e h (lease_by_lem s (accepted_with v u) has e)
+      by_add has (Added.refused m e) = Leasing.refused m (lease_by_lem limit places n d f x policy s (refused_with m s.table) has e)
+      by_add has (Added.accepted v u e h) = Leasing.accepted v u has e h (lease_by_lem limit places n d f x policy s (accepted_with v u) has e)
 
       by_place : (b : Bool) → has_place places f x s.names ≡ b → Leasing s
       by_place true has = by_add has (added limit s.table n d f x policy)
@@ -80,14 +70,10 @@ module _ (limit places : ℕ) (n d : List ℕ) (f : Family) (x : List ℕ) (poli
   -- the same again where the client holds the name with that address: 1, and the table stays
   held_again : (u : List TableEntry) (rs : List ReverseEntry) → has_place places f x rs ≡ true → Holds u n d f x
       → lease_plan limit places n d f x policy (sides u rs) ≡ lease_by (accepted_with 1 u) (placed f x n rs)
-  held_again u rs has h = lease_by_lem (sides u rs) (accepted_with 1 u) has (add_holder limit u n d f x policy h)
+  held_again u rs has h = lease_by_lem limit places n d f x policy (sides u rs) (accepted_with 1 u) has (add_holder limit u n d f x policy h)
 
   -- the three states of an accepted lease
   module _ (s : Sides) (v : ℕ) (u : List TableEntry) (e : lease_plan limit places n d f x policy s ≡ lease_by (accepted_with v u) (placed f x n s.names)) where
-    pub lease_first : after 1 (lease_plan limit places n d f x policy s) s ≡ sides u s.names
-    unfolding written_first
-    lease_first = ap (λ (p : Plan). after 1 p s) e
-
     pub lease_all : uncut (lease_plan limit places n d f x policy s) s ≡ sides u (placed f x n s.names)
     unfolding written_all
     lease_all = ap (λ (p : Plan). uncut p s) e
@@ -110,16 +96,16 @@ module _ (limit places : ℕ) (n d : List ℕ) (f : Family) (x : List ℕ) (poli
       }
   lease_mends_by s (Leasing.accepted v u has a h e) =
       let rs = s.names in
-      let one = lease_first s v u e in
+      let one = lease_first limit places n d f x policy s v u e in
       let all = lease_all s v u e in
       let again = held_again u rs has h in
       let still = held_again u (placed f x n rs) (placed_place f x n places rs) h in
       record {
         size = λ w. lease_two w (leasing w);
         between_whole = ap (λ (w : Sides). uncut (lease_plan limit places n d f x policy w) w) one ∙ lease_all (sides u rs) 1 u again ∙ sym all;
-        between_cut = ap (λ (w : Sides). after 1 (lease_plan limit places n d f x policy w) w) one ∙ lease_first (sides u rs) 1 u again ∙ sym one;
+        between_cut = ap (λ (w : Sides). after 1 (lease_plan limit places n d f x policy w) w) one ∙ lease_first limit places n d f x policy (sides u rs) 1 u again ∙ sym one;
         done_whole = ap (λ (w : Sides). uncut (lease_plan limit places n d f x policy w) w) all ∙ lease_all (sides u (placed f x n rs)) 1 u still ∙ ap (sides u) (placed_again f x n rs) ∙ sym all;
-        done_cut = ap (λ (w : Sides). after 1 (lease_plan limit places n d f x policy w) w) all ∙ lease_first (sides u (placed f x n rs)) 1 u still ∙ sym all;
+        done_cut = ap (λ (w : Sides). after 1 (lease_plan limit places n d f x policy w) w) all ∙ lease_first limit places n d f x policy (sides u (placed f x n rs)) 1 u still ∙ sym all;
       }
 
   pub lease_mends : (s : Sides) → Mends (lease_plan limit places n d f x policy) s
@@ -154,7 +140,7 @@ module _ (limit places : ℕ) (n d : List ℕ) (f : Family) (x : List ℕ) (poli
       go : Leasing s → (j : ℕ) → (lease_plan limit places n d f x policy (after (suc j) (lease_plan limit places n d f x policy s) s)).answer ≡ Accepted 1
       go (Leasing.refused m e) j = absurd (accepted≢refused (sym a ∙ ap (λ (p : Plan). p.answer) e))
       go (Leasing.accepted w u has b h e) zero =
-          ap (λ (y : Sides). (lease_plan limit places n d f x policy y).answer) (lease_first s w u e) ∙ ap (λ (p : Plan). p.answer) (held_again u s.names has h)
+          ap (λ (y : Sides). (lease_plan limit places n d f x policy y).answer) (lease_first limit places n d f x policy s w u e) ∙ ap (λ (p : Plan). p.answer) (held_again u s.names has h)
       go (Leasing.accepted w u has b h e) (suc j) =
           ap (λ (y : Sides). (lease_plan limit places n d f x policy y).answer) (lease_both s w u e j)
           ∙ ap (λ (p : Plan). p.answer) (held_again u (placed f x n s.names) (placed_place f x n places s.names) h)
@@ -166,7 +152,7 @@ module _ (limit places : ℕ) (n d : List ℕ) (f : Family) (x : List ℕ) (poli
     where
       go : Leasing s → after 1 (lease_plan limit places n d f x policy s) s ≡ sides (add limit eq_bytes s.table n d f x policy).table s.names
       go (Leasing.refused m e) = absurd (accepted≢refused (sym a ∙ ap (λ (p : Plan). p.answer) e))
-      go (Leasing.accepted w u has b h e) = lease_first s w u e ∙ ap (λ (o : StepOutcome (List ℕ)). sides o.table s.names) (sym b)
+      go (Leasing.accepted w u has b h e) = lease_first limit places n d f x policy s w u e ∙ ap (λ (o : StepOutcome (List ℕ)). sides o.table s.names) (sym b)
 
   pub lease_has_address : (s : Sides) (v k : ℕ) → (lease_plan limit places n d f x policy s).answer ≡ Accepted v
       → (c : TableEntry) × (find n (after (suc k) (lease_plan limit places n d f x policy s) s).table ≡ some c) × (address_of f c ≡ some x)
@@ -174,7 +160,7 @@ module _ (limit places : ℕ) (n d : List ℕ) (f : Family) (x : List ℕ) (poli
     where
       go : Leasing s → (j : ℕ) → (c : TableEntry) × (find n (after (suc j) (lease_plan limit places n d f x policy s) s).table ≡ some c) × (address_of f c ≡ some x)
       go (Leasing.refused m e) j = absurd (accepted≢refused (sym a ∙ ap (λ (p : Plan). p.answer) e))
-      go (Leasing.accepted w u has b h e) zero = (h.entry, ap (λ (y : Sides). find n y.table) (lease_first s w u e) ∙ h.found, holds_address u n d f x h)
+      go (Leasing.accepted w u has b h e) zero = (h.entry, ap (λ (y : Sides). find n y.table) (lease_first limit places n d f x policy s w u e) ∙ h.found, holds_address u n d f x h)
       go (Leasing.accepted w u has b h e) (suc j) = (h.entry, ap (λ (y : Sides). find n y.table) (lease_both s w u e j) ∙ h.found, holds_address u n d f x h)
 
   -- and once both steps are done the name is behind the address
@@ -199,10 +185,6 @@ module _ (n d : List ℕ) (f : Family) (x : List ℕ) where
     accepted : (u : List TableEntry) → remove eq_bytes s.table n d f x ≡ accepted_with 0 u → end_plan n d f x s ≡ end_by (accepted_with 0 u) (taken f x n s.names)
         → (Distinct (names_of s.table) → Afterwards u n d f x) → Ending s
 
-  pub end_by_lem : (s : Sides) (o : StepOutcome (List ℕ)) → remove eq_bytes s.table n d f x ≡ o → end_plan n d f x s ≡ end_by o (taken f x n s.names)
-  unfolding end_plan
-  end_by_lem s o e = ap (λ (w : StepOutcome (List ℕ)). end_by w (taken f x n s.names)) e
-
   -- the forward step is remove's
   pub end_forward : (s : Sides) → ((end_plan n d f x s).answer ≡ (remove eq_bytes s.table n d f x).answer) × ((uncut (end_plan n d f x s) s).table ≡ (remove eq_bytes s.table n d f x).table)
   unfolding written_all
@@ -211,28 +193,24 @@ module _ (n d : List ℕ) (f : Family) (x : List ℕ) where
       go : Removed s.table n d f x (remove eq_bytes s.table n d f x)
           → ((end_plan n d f x s).answer ≡ (remove eq_bytes s.table n d f x).answer) × ((uncut (end_plan n d f x s) s).table ≡ (remove eq_bytes s.table n d f x).table)
       go (Removed.refused m e) =
-          let p = end_by_lem s (refused_with m s.table) e in
+          let p = end_by_lem n d f x s (refused_with m s.table) e in
           (ap (λ (q : Plan). q.answer) p ∙ sym (ap (λ (o : StepOutcome (List ℕ)). o.answer) e), ap (λ (q : Plan). (uncut q s).table) p ∙ sym (ap (λ (o : StepOutcome (List ℕ)). o.table) e))
       go (Removed.accepted u e later) =
-          let p = end_by_lem s (accepted_with 0 u) e in
+          let p = end_by_lem n d f x s (accepted_with 0 u) e in
           (ap (λ (q : Plan). q.answer) p ∙ sym (ap (λ (o : StepOutcome (List ℕ)). o.answer) e), ap (λ (q : Plan). (uncut q s).table) p ∙ sym (ap (λ (o : StepOutcome (List ℕ)). o.table) e))
 
   pub ending : (s : Sides) → Ending s
   ending s = by_remove (removal s.table n d f x)
     where
       by_remove : Removed s.table n d f x (remove eq_bytes s.table n d f x) → Ending s
-      by_remove (Removed.refused m e) = Ending.refused m (end_by_lem s (refused_with m s.table) e)
-      by_remove (Removed.accepted u e later) = Ending.accepted u e (end_by_lem s (accepted_with 0 u) e) later
+      by_remove (Removed.refused m e) = Ending.refused m (end_by_lem n d f x s (refused_with m s.table) e)
+      by_remove (Removed.accepted u e later) = Ending.accepted u e (end_by_lem n d f x s (accepted_with 0 u) e) later
 
   pub end_two : (s : Sides) → Ending s → Two (end_plan n d f x s)
   end_two s (Ending.refused m e) = Two.none (ap (λ (p : Plan). p.writes) e)
   end_two s (Ending.accepted u a e after_it) = Two.two _ _ (ap (λ (p : Plan). p.writes) e)
 
   module _ (s : Sides) (u : List TableEntry) (e : end_plan n d f x s ≡ end_by (accepted_with 0 u) (taken f x n s.names)) where
-    pub end_first : after 1 (end_plan n d f x s) s ≡ sides s.table (taken f x n s.names)
-    unfolding written_first
-    end_first = ap (λ (p : Plan). after 1 p s) e
-
     pub end_all : uncut (end_plan n d f x s) s ≡ sides u (taken f x n s.names)
     unfolding written_all
     end_all = ap (λ (p : Plan). uncut p s) e
@@ -253,8 +231,8 @@ module _ (n d : List ℕ) (f : Family) (x : List ℕ) where
 
   -- the same again, after both writes: 33 or 34
   end_again : (u : List TableEntry) (rs : List ReverseEntry) → Afterwards u n d f x → (m : ℕ) × (end_plan n d f x (sides u rs) ≡ refused_plan m)
-  end_again u rs (Afterwards.kept c found r) = (34, end_by_lem (sides u rs) (refused_with 34 u) r)
-  end_again u rs (Afterwards.gone found r) = (33, end_by_lem (sides u rs) (refused_with 33 u) r)
+  end_again u rs (Afterwards.kept c found r) = (34, end_by_lem n d f x (sides u rs) (refused_with 34 u) r)
+  end_again u rs (Afterwards.gone found r) = (33, end_by_lem n d f x (sides u rs) (refused_with 33 u) r)
 
   end_mends_by : (s : Sides) → Apart s → Ending s → Mends (end_plan n d f x) s
   end_mends_by s apart (Ending.refused m e) =
@@ -270,15 +248,15 @@ module _ (n d : List ℕ) (f : Family) (x : List ℕ) where
   end_mends_by s apart (Ending.accepted u a e after_it) =
       let t = s.table in
       let rs = s.names in
-      let one = end_first s u e in
+      let one = end_first n d f x s u e in
       let all = end_all s u e in
       let twice = taken_again f x n rs apart.names in
-      let again = end_by_lem (sides t (taken f x n rs)) (accepted_with 0 u) a in
+      let again = end_by_lem n d f x (sides t (taken f x n rs)) (accepted_with 0 u) a in
       let still = end_again u (taken f x n rs) (after_it apart.table) in
       record {
         size = λ w. end_two w (ending w);
         between_whole = ap (λ (w : Sides). uncut (end_plan n d f x w) w) one ∙ end_all (sides t (taken f x n rs)) u again ∙ ap (sides u) twice ∙ sym all;
-        between_cut = ap (λ (w : Sides). after 1 (end_plan n d f x w) w) one ∙ end_first (sides t (taken f x n rs)) u again ∙ ap (sides t) twice ∙ sym one;
+        between_cut = ap (λ (w : Sides). after 1 (end_plan n d f x w) w) one ∙ end_first n d f x (sides t (taken f x n rs)) u again ∙ ap (sides t) twice ∙ sym one;
         done_whole = ap (λ (w : Sides). uncut (end_plan n d f x w) w) all ∙ end_stays_whole (sides u (taken f x n rs)) still.0 still.1 ∙ sym all;
         done_cut = ap (λ (w : Sides). after 1 (end_plan n d f x w) w) all ∙ end_stays (sides u (taken f x n rs)) still.0 1 still.1 ∙ sym all;
       }
@@ -305,7 +283,7 @@ module _ (n d : List ℕ) (f : Family) (x : List ℕ) where
       go : Ending s → (end_plan n d f x (after 1 (end_plan n d f x s) s)).answer ≡ Accepted 0
       go (Ending.refused m e) = absurd (accepted≢refused (sym a ∙ ap (λ (p : Plan). p.answer) e))
       go (Ending.accepted u b e after_it) =
-          ap (λ (w : Sides). (end_plan n d f x w).answer) (end_first s u e) ∙ ap (λ (p : Plan). p.answer) (end_by_lem (sides s.table (taken f x n s.names)) (accepted_with 0 u) b)
+          ap (λ (w : Sides). (end_plan n d f x w).answer) (end_first n d f x s u e) ∙ ap (λ (p : Plan). p.answer) (end_by_lem n d f x (sides s.table (taken f x n s.names)) (accepted_with 0 u) b)
 
   -- and after both 33 if the name is gone, 34 if it stands
   pub data SecondAnswer (s : Sides) (r : Answer) : Type 0 where
@@ -320,10 +298,10 @@ module _ (n d : List ℕ) (f : Family) (x : List ℕ) where
           → SecondAnswer s (end_plan n d f x (after (suc (suc k)) (end_plan n d f x s) s)).answer
       by_name u e (Afterwards.kept c found r) =
           SecondAnswer.kept c (ap (λ (w : Sides). find n w.table) (end_all s u e) ∙ found)
-          (ap (λ (w : Sides). (end_plan n d f x w).answer) (end_both s u e k) ∙ ap (λ (p : Plan). p.answer) (end_by_lem (sides u (taken f x n s.names)) (refused_with 34 u) r))
+          (ap (λ (w : Sides). (end_plan n d f x w).answer) (end_both s u e k) ∙ ap (λ (p : Plan). p.answer) (end_by_lem n d f x (sides u (taken f x n s.names)) (refused_with 34 u) r))
       by_name u e (Afterwards.gone found r) =
           SecondAnswer.gone (ap (λ (w : Sides). find n w.table) (end_all s u e) ∙ found)
-          (ap (λ (w : Sides). (end_plan n d f x w).answer) (end_both s u e k) ∙ ap (λ (p : Plan). p.answer) (end_by_lem (sides u (taken f x n s.names)) (refused_with 33 u) r))
+          (ap (λ (w : Sides). (end_plan n d f x w).answer) (end_both s u e k) ∙ ap (λ (p : Plan). p.answer) (end_by_lem n d f x (sides u (taken f x n s.names)) (refused_with 33 u) r))
 
       go : Ending s → SecondAnswer s (end_plan n d f x (after (suc (suc k)) (end_plan n d f x s) s)).answer
       go (Ending.refused m e) = absurd (accepted≢refused (sym a ∙ ap (λ (p : Plan). p.answer) e))
@@ -335,14 +313,14 @@ module _ (n d : List ℕ) (f : Family) (x : List ℕ) where
     where
       go : Ending s → after 1 (end_plan n d f x s) s ≡ sides s.table (taken f x n s.names)
       go (Ending.refused m e) = absurd (accepted≢refused (sym a ∙ ap (λ (p : Plan). p.answer) e))
-      go (Ending.accepted u b e after_it) = end_first s u e
+      go (Ending.accepted u b e after_it) = end_first n d f x s u e
 
   pub end_not_behind : (s : Sides) → Single s.names → (v k : ℕ) → (end_plan n d f x s).answer ≡ Accepted v → behind f x (after (suc k) (end_plan n d f x s) s).names ≡ some n → ⊥
   end_not_behind s single v k a = go (ending s) k
     where
       go : Ending s → (j : ℕ) → behind f x (after (suc j) (end_plan n d f x s) s).names ≡ some n → ⊥
       go (Ending.refused m e) j b = accepted≢refused (sym a ∙ ap (λ (p : Plan). p.answer) e)
-      go (Ending.accepted u c e after_it) zero b = taken_behind f x n s.names single (sym (ap (λ (w : Sides). behind f x w.names) (end_first s u e)) ∙ b)
+      go (Ending.accepted u c e after_it) zero b = taken_behind f x n s.names single (sym (ap (λ (w : Sides). behind f x w.names) (end_first n d f x s u e)) ∙ b)
       go (Ending.accepted u c e after_it) (suc j) b = taken_behind f x n s.names single (sym (ap (λ (w : Sides). behind f x w.names) (end_both s u e j)) ∙ b)
 
 -- ==== no other reverse name changes, cut or not

@@ -14,6 +14,7 @@ use Rattle.base.proofs.Tests.{and_left, and_right, eq_eq_bytes, eq_bytes_true, n
 use Rattle.slots.specs.declared.Family.{Family}
 use Rattle.slots.specs.declared.Family.TheVariants.{V4, V6}
 use Rattle.reverse.specs.Entry.{ReverseEntry, same_family, is_at, entry_at, behind, stands_at, has_place, placed, taken, others_at, Single}
+use Rattle.reverse.proofs.EntryCases.{placed_here, placed_later, taken_here, taken_later}
 
 -- ---- one entry
 
@@ -39,23 +40,6 @@ at_family f x r e = one_family r.family f (and_left (same_family r.family f) (eq
 pub at_address : (f : Family) (x : List ℕ) (r : ReverseEntry) → is_at f x r ≡ true → r.address ≡ x
 unfolding is_at
 at_address f x r e = eq_bytes_true r.address x (and_right (same_family r.family f) (eq_bytes r.address x) e)
-
-module _ (f : Family) (x n : List ℕ) (r : ReverseEntry) (rs : List ReverseEntry) where
-  pub placed_here : is_at f x r ≡ true → placed f x n (r ∷ rs) ≡ entry_at f x n ∷ rs
-  unfolding placed
-  placed_here e = ap (λ (b : Bool). cond b (entry_at f x n ∷ rs) (r ∷ placed f x n rs)) e
-
-  pub placed_later : is_at f x r ≡ false → placed f x n (r ∷ rs) ≡ r ∷ placed f x n rs
-  unfolding placed
-  placed_later e = ap (λ (b : Bool). cond b (entry_at f x n ∷ rs) (r ∷ placed f x n rs)) e
-
-  pub taken_here : is_at f x r ≡ true → taken f x n (r ∷ rs) ≡ cond (eq_bytes r.name n) rs (r ∷ rs)
-  unfolding taken
-  taken_here e = ap (λ (b : Bool). cond b (cond (eq_bytes r.name n) rs (r ∷ rs)) (r ∷ taken f x n rs)) e
-
-  pub taken_later : is_at f x r ≡ false → taken f x n (r ∷ rs) ≡ r ∷ taken f x n rs
-  unfolding taken
-  taken_later e = ap (λ (b : Bool). cond b (cond (eq_bytes r.name n) rs (r ∷ rs)) (r ∷ taken f x n rs)) e
 
 module _ (f : Family) (x : List ℕ) (r : ReverseEntry) (rs : List ReverseEntry) where
   behind_here : is_at f x r ≡ true → behind f x (r ∷ rs) ≡ some r.name

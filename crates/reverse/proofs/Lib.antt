@@ -1,3 +1,4 @@
+pub mod EntryCases
 pub mod EntryLaws
 pub mod SlotLaws
 pub mod SideLaws

@@ -21,7 +21,8 @@ use Rattle.reverse.specs.Entry.{ReverseEntry, is_at, entry_at, stands_at, has_pl
 use Rattle.reverse.specs.Form.{key_bytes, slot_bytes, WellFormed, reverse_bytes, IsReverse}
 use Rattle.reverse.specs.Promise.{key_at, FirstKey, place}
 use Rattle.reverse.specs.Sizes.{key_size, reverse_slot_size}
-use Rattle.reverse.proofs.EntryLaws.{by_at, placed_none, placed_here, placed_later, taken_none, taken_here, taken_later, stands_here, stands_later, at_family, at_address}
+use Rattle.reverse.proofs.EntryCases.{placed_here, placed_later, taken_here, taken_later}
+use Rattle.reverse.proofs.EntryLaws.{by_at, placed_none, taken_none, stands_here, stands_later, at_family, at_address}
 use Rattle.reverse.proofs.SlotLaws.{at_key, key_at_lem, slot_key, length_slot, slot_marked}
 
 -- ---- where an address stands: nowhere, or at an entry
