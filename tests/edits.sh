@@ -49,7 +49,7 @@ places() {
 }
 
 # no errors of a fact: what is not known, what was not looked at, what has another form, where the prover stopped
-no_fact='can be named from here|was not admitted|was rejected, was not checked|is not in scope|has no field|is applied to an argument but has type|antt ran out of |outgrew the memory limit'
+no_fact='can be named from here|was not admitted|was rejected, was not checked|is not in scope|has no field|record `[^`]*` \(nearest|is applied to an argument but has type|antt ran out of |outgrew the memory limit'
 
 # errors LOG FILE: the errors that stand in a file
 errors() {
@@ -207,12 +207,7 @@ done >"$out/parts"
 while read -r crate label number; do part[$crate $label $number]=.$number; done <"$out/parts"
 python3 -B tests/edits.py --part "$logs" <"$out/parts" || fail "not every wrong program was tried alone"
 ask
-# what tests/edits_left.txt names is refused beside the others of its edit, and not yet told by itself since the names of goals follow the source
 while read -r crate label number folder goal; do
-  if grep -qxF "$crate $label $number $folder${goal:+ $goal}" tests/edits_left.txt; then
-    echo "edits: $crate/$label: the wrong program at $folder $goal is left (tests/edits_left.txt)"
-    continue
-  fi
   fail "$crate/$label: the wrong program at $folder $goal is not refused by itself: see $logs/$crate/$label${part[$crate $label $number]-}.log"
 done <"$left"
 finish
