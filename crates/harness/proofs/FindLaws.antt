@@ -1,32 +1,27 @@
--- One byte more that was looked at. Assumes nothing.
-use Prim.Native.Nat.{ℕ, ◌+◌, ◌≤◌, ◌<◌}
-use mathlib.Core.Path.{◌≡◌, ap, sym, subst, ◌∙◌}
-use mathlib.Core.List.{List, [], ◌∷◌, ◌++◌}
-use native.Mathlib.Numerals.{add-one}
+-- Every byte, and the first of a kind, by index. Assumes nothing.
+use Prim.Native.Nat.{ℕ, suc, ◌+◌, ◌-◌, ◌≤◌, ◌<◌}
+use mathlib.Core.Path.{◌≡◌, ap, sym, ◌∙◌}
+use mathlib.Core.List.{List, [], ◌∷◌}
 use native.Mathlib.Omega.{arith}
-use lib.ListN.{length, get_or, take}
-use lib.Seq.{take-suc}
+use lib.ListN.{length, get_or, drop}
+use Rattle.std.proofs.lemmas.List.{get_or-drop}
 use Rattle.base.specs.Logic.{Every}
-use Rattle.base.proofs.Lists.{every_append}
-use Rattle.base.proofs.Tests.{by_ltb}
+use Rattle.harness.specs.Finding.{FirstFrom}
 
--- from `at` up to i there is no byte b
-pub record Passed (t : List ℕ) (at b i : ℕ) : Type 0 where
-  pub from : at ≤ i
-  pub within : i ≤ length t
-  pub before : (j : ℕ) → at ≤ j → j < i → get_or t j 0 ≡ b → ⊥
+pub every_below : {P : ℕ → Type 0} (l : List ℕ) → ((i : ℕ) → i < length l → P (get_or l i 0)) → Every P l
+every_below [] h = Every.none
+every_below (x ∷ l) h = Every.more (h 0 (omega arith)) (every_below l (λ i lt. h (suc i) (omega arith)))
 
-pub passed_more : (t : List ℕ) (at b i : ℕ) → Passed t at b i → i < length t → (get_or t i 0 ≡ b → ⊥) → Passed t at b (i + 1)
-passed_more t at b i h lt other =
+-- behind `at` the byte b stands i bytes further on, and nowhere before, if it stands there at all
+pub first_from : (t : List ℕ) (at b i : ℕ) → at + i ≤ length t → ((j : ℕ) → j < i → get_or (drop at t) j 0 ≡ b → ⊥) → (at + i < length t → get_or (drop at t) i 0 ≡ b)
+    → FirstFrom t at b (at + i)
+first_from t at b i within before there =
     record {
-      from = omega (arith, h.from);
-      within = omega arith;
-      before = λ j after lower is.
-          by_ltb j i (λ below. h.before j after below is)
-          (λ above. let here : j ≡ i = omega arith in other (ap (λ (k : ℕ). get_or t k 0) (sym here) ∙ is));
+      from = omega arith;
+      within = within;
+      before =
+          λ j after lower is.
+          let place : at + (j - at) ≡ j = omega arith in
+          before (j - at) (omega arith) (get_or-drop at t (j - at) 0 ∙ ap (λ (k : ℕ). get_or t k 0) place ∙ is);
+      there = λ lt. sym (get_or-drop at t i 0) ∙ there lt;
     }
-
-pub all_more : (t : List ℕ) (b i : ℕ) → Every (λ x. x ≡ b) (take i t) → i < length t → get_or t i 0 ≡ b → Every (λ x. x ≡ b) (take (i + 1) t)
-all_more t b i h lt is =
-    let next : take (i + 1) t ≡ take i t ++ (get_or t i 0 ∷ []) = ap (λ (k : ℕ). take k t) (add-one i) ∙ take-suc t i 0 lt in
-    subst (Every (λ x. x ≡ b)) (sym next) (every_append (take i t) (get_or t i 0 ∷ []) h (Every.more is Every.none))

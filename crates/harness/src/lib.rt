@@ -20,14 +20,7 @@ pub const STDOUT: i32 = 1;
 pub fn is_all(bytes: &[u8], b: u8) -> bool
     ensures { Decides result (Every (λ x. x ≡ b) bytes.now) }
 {
-    let mut i: usize = 0;
-    while i < bytes.len() {
-        if bytes[i] != b {
-            return false;
-        }
-        i += 1;
-    }
-    true
+    bytes.iter().all(|x| *x == b)
 }
 
 // Where the byte b stands next, from `at` on; or the end.
@@ -35,14 +28,10 @@ pub fn find(text: &[u8], at: usize, b: u8) -> usize
     requires { at ≤ length text.now }
     ensures { FirstFrom text.now at b result }
 {
-    let mut i = at;
-    while i < text.len() {
-        if text[i] == b {
-            return i;
-        }
-        i += 1;
+    match text[at..].iter().position(|x| *x == b) {
+        Some(i) => at + i,
+        None => text.len(),
     }
-    i
 }
 
 // The first n bytes, or all where there are fewer. The lengths follow from that, and are promised too for callers' proofs to find.
@@ -102,6 +91,7 @@ impl Line {
         }
     }
 
+    #[tactic(auto, unfolding(crate::specs::Printing::followed))]
     pub fn text(self, bytes: &[u8]) -> Self
         ensures { result ≡ followed self bytes.now }
     {
@@ -118,12 +108,8 @@ impl Line {
         ensures { result ≡ followed self (hexadecimal bytes.now) }
     {
         let mut line = self;
-        let mut i: usize = 0;
-        while i < bytes.len() {
-            let pair = hex_pair(bytes[i]);
-            let next = line.text(&pair);
-            line = next;
-            i += 1;
+        for b in bytes {
+            line = line.text(&hex_pair(*b));
         }
         line
     }
@@ -145,6 +131,7 @@ impl Line {
             .text(b" at ")
             .number(offset as u64)
     }
+
     // The owner's bytes, the type's number and the data.
     pub fn resource_record(self, owner: &[u8], rtype: u8, rdata: &[u8]) -> Self
         ensures { result ≡ followed self (resource_record owner.now rtype rdata.now) }

@@ -17,13 +17,8 @@ ghost use Rattle.slots.specs.Sizes.{field_size, field_at, field_bit, address_typ
 use base::dhcid::is_well_formed;
 use base::refusal::{ADDRESS_DIFFERS, HELD_BY_ANOTHER, KEPT_BY_HAND};
 use name::wire::is_canonical;
-use octets::{are_zeros_at_once, are_zeros_by_chunks, same};
+use octets::{are_zeros_at_once, same};
 use slots::{Family, Holding, Removal, Rtype};
-
-// The number of a family, as a call gives it.
-const V4: u32 = 4;
-
-const V6: u32 = 6;
 
 // How many bytes the three fields have.
 const A_SIZE: usize = 4;
@@ -71,10 +66,7 @@ fn is_zero_unless_set(bit: u8, flags: u8, field: &[u8]) -> bool
     requires { 1 ≤ bit }
     ensures { Decides result (tests.ZeroUnlessSet bit flags field.now) }
 {
-    if is_set(bit, flags) {
-        return true;
-    }
-    are_zeros_at_once(field)
+    is_set(bit, flags) || are_zeros_at_once(field)
 }
 
 // Is this a name as a sound table has it, proper and in canonical form?
@@ -90,10 +82,7 @@ pub fn is_name_field(field: &[u8]) -> bool
     ensures { Decides result (tests.NameField field.now) }
 {
     let end = NAME + field[0] as usize;
-    if !is_held_name(&field[NAME..end]) {
-        return false;
-    }
-    are_zeros_by_chunks(&field[end..FLAGS])
+    is_held_name(&field[NAME..end]) && are_zeros_at_once(&field[end..FLAGS])
 }
 
 // Do the flags and the fields agree?
@@ -102,23 +91,17 @@ fn are_fields(slot: &[u8]) -> bool
     ensures { Decides result (tests.FieldsIn slot.now) }
 {
     let flags = slot[FLAGS];
-    if flags == 0 {
-        return false;
-    }
-    if ALL < flags {
-        return false;
-    }
-    if !is_zero_unless_set(HAS_A, flags, &slot[A..AAAA]) {
-        return false;
-    }
-    if !is_zero_unless_set(HAS_AAAA, flags, &slot[AAAA..DHCID]) {
+    if flags == 0 || ALL < flags {
         return false;
     }
     let dhcid = &slot[DHCID..BODY];
-    if is_set(HAS_DHCID, flags) {
-        return is_well_formed(dhcid);
-    }
-    are_zeros_at_once(dhcid)
+    is_zero_unless_set(HAS_A, flags, &slot[A..AAAA])
+        && is_zero_unless_set(HAS_AAAA, flags, &slot[AAAA..DHCID])
+        && if is_set(HAS_DHCID, flags) {
+            is_well_formed(dhcid)
+        } else {
+            are_zeros_at_once(dhcid)
+        }
 }
 
 // Is this the slot of an entry that a sound table can have?
@@ -126,10 +109,7 @@ pub fn is_slot(slot: &[u8]) -> bool
     requires { length slot.now ≡ body_size }
     ensures { Decides result (IsSlot slot.now) }
 {
-    if !is_name_field(&slot[0..FLAGS]) {
-        return false;
-    }
-    are_fields(slot)
+    is_name_field(&slot[0..FLAGS]) && are_fields(slot)
 }
 
 // Who holds the name, seen from the client with this DHCID?
@@ -214,20 +194,14 @@ pub fn data_from(slot: &[u8], rtype: Rtype) -> &[u8]
 pub fn is_family(family: u32) -> bool
     ensures { Decides result (KnownFamily family) }
 {
-    if family == V4 {
-        return true;
-    }
-    family == V6
+    Family::try_from(family).is_ok()
 }
 
 // The family of a number: 4, or else 6.
 pub fn family_of(family: u32) -> Family
     ensures { result ≡ family_of family }
 {
-    if family == V4 {
-        return Family::V4;
-    }
-    Family::V6
+    Family::try_from(family).unwrap_or(Family::V6)
 }
 
 // The other family.

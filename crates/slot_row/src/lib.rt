@@ -26,8 +26,7 @@ fn are_slots(table: &[u8]) -> bool
     requires { length table.now ≡ table_size }
     ensures { Decides result (Entries most_names table.now) }
 {
-    let mut i: usize = 0;
-    while i < SLOTS {
+    for i in 0..SLOTS {
         let at = slot::SIZE * i;
         if table[at] == 0 {
             return are_zeros_at_once(&table[at..]);
@@ -35,7 +34,6 @@ fn are_slots(table: &[u8]) -> bool
         if !is_slot(&table[at..at + slot::SIZE]) {
             return false;
         }
-        i += 1;
     }
     true
 }
@@ -57,18 +55,13 @@ pub fn find(table: &[u8], name: &[u8]) -> usize
     requires { Entries most_names table.now }
     ensures { OfTable most_names table.now (λ t. result ≡ position (canonical name.now) t) }
 {
-    let mut i: usize = 0;
-    while i < SLOTS {
+    for i in 0..SLOTS {
         let held = name_at(table, i);
-        if held.len() == 0 {
+        if held.is_empty() || matches(name, held) {
             return i;
         }
-        if matches(name, held) {
-            return i;
-        }
-        i += 1;
     }
-    i
+    SLOTS
 }
 
 // How many names stand: the slots before the first unused one.
@@ -76,15 +69,13 @@ pub fn count(table: &[u8]) -> usize
     requires { Entries most_names table.now }
     ensures { OfTable most_names table.now (λ t. result ≡ length t) }
 {
-    let mut i: usize = 0;
-    while i < SLOTS {
+    for i in 0..SLOTS {
         let len = table[slot::SIZE * i];
         if len == 0 {
             return i;
         }
-        i += 1;
     }
-    i
+    SLOTS
 }
 
 // Does the name in slot i stand in no slot before it?
@@ -93,12 +84,10 @@ fn is_first(table: &[u8], i: usize) -> bool
     ensures { OfTable most_names table.now (λ t. ((e : TableEntry) (r : List TableEntry) → drop i t ≡ e ∷ r → Decides result (position e.name t ≡ i))) }
 {
     let name = name_at(table, i);
-    let mut j: usize = 0;
-    while j < i {
+    for j in 0..i {
         if same(name_at(table, j), name) {
             return false;
         }
-        j += 1;
     }
     true
 }
@@ -108,15 +97,13 @@ fn no_name_twice(table: &[u8]) -> bool
     requires { Entries most_names table.now }
     ensures { OfTable most_names table.now (λ t. Decides result (Distinct (names t))) }
 {
-    let mut i: usize = 0;
-    while i < SLOTS {
+    for i in 0..SLOTS {
         if table[slot::SIZE * i] == 0 {
             return true;
         }
         if !is_first(table, i) {
             return false;
         }
-        i += 1;
     }
     true
 }
@@ -125,13 +112,7 @@ fn no_name_twice(table: &[u8]) -> bool
 pub fn is_sound(table: &[u8]) -> bool
     ensures { Decides result (Sound most_names table.now) }
 {
-    if table.len() != SIZE {
-        return false;
-    }
-    if !are_slots(table) {
-        return false;
-    }
-    no_name_twice(table)
+    table.len() == SIZE && are_slots(table) && no_name_twice(table)
 }
 
 // Makes the table empty.

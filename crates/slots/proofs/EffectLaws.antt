@@ -1,6 +1,6 @@
 -- What the writes of a slot leave, as the slots of entries, and what its fields say. Assumes nothing.
 use Prim.Native.Nat.{ℕ, ◌+◌, ◌-◌, ◌%◌, ◌≤◌}
-use mathlib.Core.Bool.{Bool, true, false, cond, or-false, true≢false, false≢true}
+use mathlib.Core.Bool.{Bool, true, false, cond, true≢false, false≢true}
 use mathlib.Core.Path.{◌≡◌, refl, sym, ap, ap₂, ◌∙◌}
 use mathlib.Core.List.{List, [], ◌∷◌, ◌++◌, append_assoc}
 use mathlib.Core.Option.{Option, none, some}
@@ -12,8 +12,7 @@ use lib.Seq.{length-take-le, take-take}
 use Rattle.base.specs.Bytes.{overlay, eq_bytes, padded}
 use Rattle.base.proofs.Bytes.{set_overlay}
 use Rattle.base.proofs.Tests.{by_ltb}
-use Rattle.slots.specs.Effect.{deleted, has_address}
-use Rattle.slots.specs.Entry.{Entry, address_of, address_size, other, with_address, with_holder}
+use Rattle.slots.specs.Entry.{address_of, address_size, with_address, with_holder}
 use Rattle.slots.specs.Fields.{bare, there, in_field, with_field}
 use Rattle.slots.specs.Form.{TableEntry, WellFormed, field, flag, flags, slot_bytes, IsSlot}
 use Rattle.slots.specs.Promise.{is_set, flag_set, flag_cleared, field_put, field_cleared, holding, is_address}
@@ -71,15 +70,6 @@ field_offset_most Dhcid = omega arith
 pub address_in : (f : Family) (k : Rtype) (e : TableEntry) → k ≡ address_type f → in_field k e ≡ address_of f e
 address_in V4 k e is = ap (λ (q : Rtype). in_field q e) is
 address_in V6 k e is = ap (λ (q : Rtype). in_field q e) is
-
--- where one family's address is deleted, an address is left exactly if the other family's is there
-pub left_address : {H : Type 0} (f : Family) (e : Entry H) → has_address (deleted f e) ≡ there (address_of (other f) e)
-left_address V4 e = refl
-left_address V6 e = or-false (there e.a)
-
--- and that is in the field of its type
-pub left_in : (f g : Family) (k : Rtype) (e : TableEntry) → g ≡ other f → k ≡ address_type g → there (in_field k e) ≡ has_address (deleted f e)
-left_in f g k e is of = ap there (address_in g k e of) ∙ ap (λ (h : Family). there (address_of h e)) is ∙ sym (left_address f e)
 
 -- ---- a slot that is being written: it need not have a flag yet
 

@@ -7,7 +7,6 @@ use lib.ListN.{length, take, drop, get_or, replicate, length-drop, length-replic
 use lib.Seq.{take_all, take-add, take_at, drop-cons, drop-drop, length-take-le}
 use Rattle.base.specs.Bytes.{padded}
 use Rattle.base.proofs.Lists.{append_split}
-use Rattle.name.specs.Name.{Proper, canonical}
 use Rattle.name.proofs.WireLaws.{proper_short}
 use Rattle.slots.specs.SlotTests.{HeldName, NameField}
 use Rattle.slots.proofs.LaidLaws.{length_padded}

@@ -1,7 +1,7 @@
 -- Which bytes are a slot's, part by part. Assumes nothing.
 use Prim.Native.Nat.{ℕ, suc, ◌+◌, ◌≤◌}
 use mathlib.Core.Bool.{Bool, true, false, cond, true≢false}
-use mathlib.Core.Path.{◌≡◌, refl, sym, ap, ap₂, subst, ◌∙◌}
+use mathlib.Core.Path.{◌≡◌, refl, sym, ap, ◌∙◌}
 use mathlib.Core.List.{List, [], ◌∷◌, ◌++◌, append_assoc}
 use mathlib.Core.Option.{Option, none, some}
 use native.Mathlib.Omega.{arith}
@@ -11,13 +11,13 @@ use lib.Seq.{take_at, get_or-take, length-take-le}
 use borrow.Author.Tests.{eqb-true}
 use Rattle.base.specs.Bytes.{padded}
 use Rattle.base.specs.Dhcid.{well_formed}
-use Rattle.base.specs.Logic.{IfSome, Decides}
+use Rattle.base.specs.Logic.{IfSome}
 use Rattle.base.proofs.Lists.{drop_take}
-use Rattle.base.proofs.Tests.{decides_as, below, at_each}
+use Rattle.base.proofs.Tests.{below, at_each}
 use Rattle.slots.specs.Fields.{there}
 use Rattle.slots.specs.Form.{TableEntry, field, flag, flags, slot_bytes, WellFormed, IsSlot}
 use Rattle.slots.specs.Promise.{is_set}
-use Rattle.slots.specs.SlotTests.{HeldName, NameField, ZeroUnlessSet, Fields, FieldsIn}
+use Rattle.slots.specs.SlotTests.{HeldName, NameField, Fields, FieldsIn}
 use Rattle.slots.specs.Sizes.{body_size}
 use Rattle.slots.proofs.FlagLaws.{flag_a, flag_aaaa, flag_dhcid, flags_most}
 use Rattle.slots.proofs.NameFieldLaws.{zeros_of}
@@ -80,21 +80,6 @@ entry_fields e w =
       dhcid = λ t. absent_zeros 35 e.holder (sym (flag_dhcid e) ∙ t);
       holder = λ t. there_well_formed e.holder w.dhcid (sym (flag_dhcid e) ∙ t);
     }
-
--- the last test, of the DHCID, decides whether they do
-module _ (v : ℕ) (x y z : List ℕ) (some : 1 ≤ v) (known : v ≤ 7) (a : ZeroUnlessSet 1 v x) (aaaa : ZeroUnlessSet 2 v y) (b : Bool) where
-  pub fields_if_held : is_set 4 v ≡ true → b ≡ well_formed z → Decides b (Fields v x y z)
-  fields_if_held set test =
-      record {
-        if_true = λ t. record { some = some; known = known; a = a; aaaa = aaaa; dhcid = λ f. absurd (true≢false (sym set ∙ f)); holder = λ k. sym test ∙ t };
-        if_false = λ f h. true≢false (sym (h.holder set) ∙ sym test ∙ f);
-      }
-
-  pub fields_if_by_hand : is_set 4 v ≡ false → Decides b (z ≡ replicate (length z) 0) → Decides b (Fields v x y z)
-  fields_if_by_hand unset =
-      decides_as
-      (λ e. record { some = some; known = known; a = a; aaaa = aaaa; dhcid = λ f. e; holder = λ k. absurd (true≢false (sym k ∙ unset)) })
-      (λ h. h.dhcid unset)
 
 -- ---- the parts of 312 bytes
 

@@ -1,11 +1,13 @@
 -- The entries of the table of names. Document 01, "The table" (docs/RULES.md, 7.1): a name, with at most one A, one AAAA and one DHCID.
-use Rattle.std.specs.Prelude.{ℕ, suc, cond, ◌≡◌, List, [], ◌∷◌, map, eqb}
+use Rattle.std.specs.Prelude.{ℕ, suc, cond, ◌≡◌, List, [], ◌∷◌, Result, Ok, Err, map, eqb}
 use Rattle.std.proofs.Math.Option.{Option, some}
 use Rattle.base.specs.Bytes.{eq_bytes}
+use Rattle.base.specs.Family.{KnownFamily}
 use Rattle.base.specs.Logic.{Every}
 use Rattle.slots.specs.Sizes.{field_size, address_type}
 use Rattle.slots.specs.declared.Family.{Family}
 use Rattle.slots.specs.declared.Family.TheVariants.{V4, V6}
+use Rattle.slots.specs.declared.UnknownFamily.{UnknownFamily}
 
 -- What stands under one name, which is in canonical wire form: its addresses, and who holds it. In the table a holder is a client's DHCID; the type H is left
 -- open for a ledger that keeps something else of a client. A name without a holder is kept by hand.
@@ -20,6 +22,11 @@ pub record Entry (H : Type 0) : Type 0 where
 -- the number of a family, 4 or 6, as a call gives it
 abbrev pub family_of : ℕ → Family
 family_of n = cond (eqb n 4) V4 V6
+
+-- what asking for the family of a number gives: that of a known one, and of another that it is unknown
+abbrev pub FamilyNumbered : ℕ → Result Family UnknownFamily → Type 0
+FamilyNumbered n (Ok f) = KnownFamily n × (f ≡ family_of n)
+FamilyNumbered n (Err e) = KnownFamily n → ⊥
 
 abbrev pub other : Family → Family
 other V4 = V6

@@ -1,22 +1,24 @@
-use borrow.Author.Rules.{rules}
-use Prim.Native.Nat.{◌-◌}
+use Prim.Native.Nat.{ℕ, ◌<◌, ◌-◌, ◌+◌}
+use mathlib.Core.Path.{◌≡◌, subst}
 use native.Mathlib.Omega.{arith}
-use lib.ListN.{length}
-use Rattle.harness.proofs.FindLaws.{Passed, passed_more}
+use lib.ListN.{length, get_or, drop}
+use Rattle.std.proofs.lemmas.Grind.{common_steps}
+use Rattle.harness.specs.Finding.{FirstFrom}
+use Rattle.harness.proofs.FindLaws.{first_from}
 use Rattle.harness.proofs.find.Goals as goal
 
-pub loop-i-init : goal.loop-i-init
-loop-i-init c = record { from = omega arith; within = omega arith; before = λ j after lower is. omega arith }
+pub returns-in-Some : goal.returns-in-Some
+returns-in-Some c =
+    let rest = drop c.args.at c.args.text.now in
+    let before : (j : ℕ) → j < c.in-Some.i → get_or rest j 0 ≡ c.args.b → ⊥ = grind (arith, common_steps) in
+    let there : get_or rest c.in-Some.i 0 ≡ c.args.b = grind (arith, common_steps) in
+    let bound : c.in-Some.i < length c.args.text.now - c.args.at = grind (arith, common_steps) in
+    first_from _ _ _ _ (omega arith) before (λ lt. there)
 
-pub returns-then-text-i : goal.returns-then-text-i
-returns-then-text-i c =
-    let h = c.loop-i.invariant in
-    record { from = h.from; within = h.within; before = h.before; there = λ lt. c.if-text-i.true }
-
-pub loop-i-preserved : goal.loop-i-preserved
-loop-i-preserved c = passed_more _ _ _ _ c.loop-i.invariant (omega arith) c.if-text-i.false
-
-pub returns : goal.returns
-returns c =
-    let h = c.loop-i.invariant in
-    record { from = h.from; within = h.within; before = h.before; there = λ lt. absurd (omega arith) }
+pub returns-in-None : goal.returns-in-None
+returns-in-None c =
+    let text = c.args.text.now in
+    let at = c.args.at in
+    let none : (j : ℕ) → j < length text - at → get_or (drop at text) j 0 ≡ c.args.b → ⊥ = grind (arith, common_steps) in
+    let end : at + (length text - at) ≡ length text = omega arith in
+    subst (FirstFrom text at c.args.b) end (first_from text at _ (length text - at) (omega arith) none (λ lt. absurd (omega arith)))

@@ -1,27 +1,16 @@
-use Prim.Native.Nat.{ℕ}
-use mathlib.Core.Path.{sym}
-use native.Mathlib.Omega.{arith}
-use lib.ListN.{replicate, length-replicate, get_or-replicate}
-use Rattle.base.proofs.Fill.{copied_none, copied_more, copied_all}
+use Rattle.std.proofs.Common.{ℕ, ◌+◌, ◌-◌, ◌≡◌, ◌∙◌, sym, ap, replicate, append_assoc, arith}
+use Rattle.std.proofs.lemmas.List.{take_all, length-replicate}
+use Rattle.std.proofs.Math.Seq.{drop-drop}
+use Rattle.base.specs.Bytes.{overlay}
 use Rattle.octets.proofs.put_zeros.Goals as goal
 
-pub loop-i-init : goal.loop-i-init
-loop-i-init c = copied_none c.args.to.now c.args.at (replicate c.args.size 0)
-
-pub bounds-to-at : goal.bounds-to-at
-bounds-to-at c = omega (arith, c.loop-i.invariant.long)
-
-pub loop-i-preserved : goal.loop-i-preserved
-loop-i-preserved c =
-    let a = c.args in
-    let l = length-replicate {A = ℕ} a.size 0 in
-    let i = c.loop-i.i in
-    copied_more a.to.now a.at (replicate a.size 0) _ i 0 c.loop-i.invariant (sym (get_or-replicate a.size i 0 0 (omega arith))) (omega arith) (omega arith)
-
-pub shape_of-to : goal.shape_of-to
-shape_of-to c = c.loop-i.invariant.long
-
 pub returns : goal.returns
+unfolding overlay
 returns c =
     let a = c.args in
-    copied_all a.to.now a.at (replicate a.size 0) _ c.loop-i.i c.loop-i.invariant (omega (arith, length-replicate {A = ℕ} a.size 0))
+    let d = c.loop-b.b-items in
+    let i : c.loop-b.b-index ≡ a.size = omega arith in
+    let zeros : d ≡ replicate a.size 0 = sym (take_all c.loop-b.b-index d (omega arith)) ∙ c.loop-b.invariant.1 ∙ ap (λ (n : ℕ). replicate n 0) i in
+    let size : a.at + a.size - a.at ≡ a.size = omega arith in
+    let long = length-replicate {A = ℕ} a.size 0 in
+    rw (zeros, size, long, drop-drop) (simp append_assoc)

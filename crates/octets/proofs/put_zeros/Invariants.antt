@@ -1,10 +1,5 @@
-use Prim.Native.Nat.{◌-◌}
-use lib.ListN.{replicate}
-use Rattle.base.proofs.Fill.{Copied}
+use Rattle.std.proofs.Common.{◌≡◌, length, take, replicate}
 use Rattle.octets.proofs.put_zeros.Given as goal
 
-abbrev pub invariant-loop-i : goal.invariant-loop-i
-invariant-loop-i l = Copied l.initial.to l.at (replicate l.size 0) l.to l.i
-
-abbrev pub decreases-loop-i : goal.decreases-loop-i
-decreases-loop-i l = l.size - l.i
+abbrev pub invariant-loop-b : goal.invariant-loop-b
+invariant-loop-b l = (length l.b-items ≡ l.size) × (take l.b-index l.b-items ≡ replicate l.b-index 0)

@@ -1,16 +1,6 @@
-use native.Mathlib.Omega.{arith}
 use borrow.Author.Tests.{eqb-true, eqb-false}
-use Rattle.octets.proofs.SameLaws.{passed_none, passed_more, passed_all}
+use Rattle.octets.proofs.SameLaws.{passed_more, passed_all}
 use Rattle.octets.proofs.same_chunk.Goals as goal
-
-pub loop-i-init : goal.loop-i-init
-loop-i-init c = passed_none _ _ _
-
-pub bounds-a-at : goal.bounds-a-at
-bounds-a-at c = let p = c.requires in omega (arith, p.0, p.1)
-
-pub bounds-b-at : goal.bounds-b-at
-bounds-b-at c = let p = c.requires in omega (arith, p.0, p.1)
 
 pub loop-i-preserved : goal.loop-i-preserved
 loop-i-preserved c =

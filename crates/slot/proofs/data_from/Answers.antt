@@ -3,11 +3,7 @@ use mathlib.Core.Path.{◌≡◌, ap₂}
 use native.Mathlib.Omega.{arith}
 use lib.ListN.{take, drop}
 use Rattle.slots.proofs.EffectLaws.{of_slot, long, field_offset_most}
-use borrow.Author.Rules.{rules}
 use Rattle.slot.proofs.data_from.Goals as goal
-
-pub overflow_add-result : goal.overflow_add-result
-overflow_add-result c = omega (arith, field_offset_most c.args.rtype)
 
 pub slice_bounds-result-end : goal.slice_bounds-result-end
 slice_bounds-result-end c =

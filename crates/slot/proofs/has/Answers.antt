@@ -3,15 +3,11 @@ use mathlib.Core.Path.{ap, ◌∙◌}
 use native.Mathlib.Omega.{arith}
 use lib.ListN.{get_or}
 use Rattle.slots.specs.Promise.{is_set}
-use Rattle.slots.proofs.EffectLaws.{slot_of_lem, of_slot, long, field_bit_some, field_flag}
-use borrow.Author.Rules.{rules}
+use Rattle.slots.proofs.EffectLaws.{slot_of_lem, of_slot, long, field_flag}
 use Rattle.slot.proofs.has.Goals as goal
 
 pub bounds-slot-256 : goal.bounds-slot-256
 bounds-slot-256 c = omega (arith, long (of_slot c.args.slot.now c.requires))
-
-pub is_set-requires : goal.is_set-requires
-is_set-requires c = omega (arith, field_bit_some c.args.rtype)
 
 pub returns : goal.returns
 returns c =

@@ -4,20 +4,15 @@ use mathlib.Core.List.{List}
 use mathlib.Core.Option.{Option}
 use native.Mathlib.Omega.{arith}
 use lib.ListN.{take, drop, get_or}
-use borrow.Author.Tests.{not-true, not-false}
-use borrow.Author.Rules.{rules}
 use Rattle.base.specs.Bytes.{eq_bytes}
 use Rattle.slots.specs.Fields.{in_field}
 use Rattle.slots.specs.Promise.{is_set, is_address}
 use Rattle.slots.specs.Sizes.{flags_at, field_size}
-use Rattle.slots.proofs.EffectLaws.{slot_of_lem, of_slot, long, field_bit_some, field_fits, address_in, field_flag, field_at_lem, has_none, has_some}
+use Rattle.slots.proofs.EffectLaws.{slot_of_lem, of_slot, long, field_fits, address_in, field_flag, field_at_lem, has_none, has_some}
 use Rattle.slot.proofs.has_address.Goals as goal
 
 pub bounds-slot-256 : goal.bounds-slot-256
 bounds-slot-256 c = omega (arith, long (of_slot c.args.slot.now c.requires))
-
-pub is_set-requires : goal.is_set-requires
-is_set-requires c = omega (arith, field_bit_some c.address_type-rtype.result)
 
 pub returns-then-not-is_set : goal.returns-then-not-is_set
 returns-then-not-is_set c =
@@ -27,9 +22,6 @@ returns-then-not-is_set c =
     λ e w form.
     let unset = sym (field_flag (slot_of_lem w form) k.result) ∙ ap (λ (bit : ℕ). is_set bit (get_or a.slot.now flags_at 0)) (sym c.field_bit.ensures) ∙ sym c.is_set.ensures ∙ c.if-not-is_set.true in
     has_none x (in_field k.result e) unset ∙ ap (λ (o : Option (List ℕ)). is_address o x) (address_in a.family k.result e k.ensures)
-
-pub overflow_add-end : goal.overflow_add-end
-overflow_add-end c = omega (arith, field_fits c.address_type-rtype.result)
 
 pub slice_bounds-same-end : goal.slice_bounds-same-end
 slice_bounds-same-end c =

@@ -3,8 +3,6 @@ use mathlib.Core.Bool.{true, false}
 use mathlib.Core.Path.{sym, ap, ◌∙◌}
 use mathlib.Core.List.{List}
 use native.Mathlib.Omega.{arith}
-use borrow.Author.Tests.{not-true, not-false}
-use borrow.Author.Rules.{rules}
 use Rattle.base.specs.Bytes.{eq_bytes}
 use Rattle.slots.proofs.EffectLaws.{slot_of_lem, of_slot, long, held_flag, holder_at, by_hand, held_by}
 use Rattle.slot.proofs.holding.Goals as goal

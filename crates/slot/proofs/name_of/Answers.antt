@@ -1,16 +1,9 @@
 use native.Mathlib.Omega.{arith}
 use Rattle.slots.proofs.EffectLaws.{of_slot, long, held_name}
-use borrow.Author.Rules.{rules}
 use Rattle.slot.proofs.name_of.Goals as goal
 
 pub bounds-slot-0 : goal.bounds-slot-0
 bounds-slot-0 c = omega (arith, long (of_slot c.args.slot.now c.requires))
-
-pub overflow_cast-end : goal.overflow_cast-end
-overflow_cast-end c = omega (arith, c.type_inv.slot 0)
-
-pub overflow_add-end : goal.overflow_add-end
-overflow_add-end c = omega (arith, c.type_inv.slot 0)
 
 pub slice_bounds-result-end : goal.slice_bounds-result-end
 slice_bounds-result-end c = omega (arith, c.type_inv.slot 0, long (of_slot c.args.slot.now c.requires))

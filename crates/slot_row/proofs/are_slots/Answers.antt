@@ -1,17 +1,12 @@
 use Prim.Native.Nat.{◌-◌, ◌*◌, ◌+◌}
 use mathlib.Core.Path.{◌≡◌}
 use native.Mathlib.Omega.{arith}
-use lib.ListN.{length, drop, length-take, length-drop}
+use lib.ListN.{length, drop, length-drop}
 use lib.Seq.{take_all}
-use borrow.Author.Rules.{rules}
-use borrow.Author.Tests.{not-true, not-false}
 use Rattle.base.proofs.Tests.{yes_by, no_by}
-use Rattle.slots.proofs.TableLaws.{Reached, reached_none, reached_more, reached_all, no_slot, unused_decides}
+use Rattle.slots.proofs.TableLaws.{reached_more, reached_all, no_slot, unused_decides}
 use Rattle.slots.specs.Sizes.{most_names, slot_size}
 use Rattle.slot_row.proofs.are_slots.Goals as goal
-
-pub loop-i-init : goal.loop-i-init
-loop-i-init c = reached_none most_names _
 
 pub returns-then-table-at-eq0 : goal.returns-then-table-at-eq0
 returns-then-table-at-eq0 c =
@@ -19,9 +14,6 @@ returns-then-table-at-eq0 c =
     let i = c.loop-i.i in
     unused_decides most_names b i c.loop-i.invariant c.loop-i-test.true c.if-table-at-eq0.true c.requires _ _
     (take_all (length b - slot_size * i) (drop (slot_size * i) b) (simp length-drop (omega arith))) c.are_zeros_at_once.ensures
-
-pub is_slot-requires : goal.is_slot-requires
-is_slot-requires c = simp (length-take, length-drop) (omega arith)
 
 pub returns-then-not-is_slot : goal.returns-then-not-is_slot
 returns-then-not-is_slot c =

@@ -1,16 +1,10 @@
-use Prim.Native.Nat.{◌-◌, ◌≤◌}
 use mathlib.Core.Path.{ap}
 use native.Mathlib.Omega.{arith}
-use lib.ListN.{length, drop, length-drop}
-use borrow.Author.Rules.{rules}
-use Rattle.slots.specs.Promise.{OfTable}
+use lib.ListN.{length, length-drop}
 use Rattle.slots.specs.Sizes.{most_names}
 use Rattle.slots.proofs.NameLaws.{entry_at}
-use Rattle.slots.proofs.TableLaws.{length_table, no_more, none_at, some_at}
+use Rattle.slots.proofs.TableLaws.{length_table, none_at, some_at}
 use Rattle.slot_row.proofs.count.Goals as goal
-
-pub loop-i-init : goal.loop-i-init
-loop-i-init c = λ t h. omega arith
 
 pub bounds-table-i : goal.bounds-table-i
 bounds-table-i c =
@@ -27,8 +21,3 @@ loop-i-preserved c = λ t h.
     let l = c.loop-i in
     let u = some_at most_names t _ h l.i (l.invariant t h) c.loop-i-test.true c.if-len-eq0.false in
     omega (arith, (entry_at t l.i u.entry u.later u.order).within)
-
-pub returns : goal.returns
-returns c = λ t h.
-    let l = c.loop-i in
-    omega (arith, l.invariant t h, length-drop l.i t, ap length (no_more most_names t _ h l.i (l.invariant t h) c.loop-i-test.false))

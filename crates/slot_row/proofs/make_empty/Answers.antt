@@ -1,6 +1,5 @@
 use mathlib.Core.Path.{◌∙◌}
 use Rattle.slots.proofs.TableLaws.{emptied}
-use borrow.Author.Rules.{rules}
 use Rattle.slots.specs.Sizes.{most_names}
 use Rattle.slot_row.proofs.make_empty.Goals as goal
 

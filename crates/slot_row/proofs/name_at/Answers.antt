@@ -4,17 +4,7 @@ use native.Mathlib.Omega.{arith}
 use lib.ListN.{take, drop, get_or}
 use Rattle.slots.specs.Promise.{name_at}
 use Rattle.slots.specs.Sizes.{slot_size}
-use borrow.Author.Rules.{rules}
 use Rattle.slot_row.proofs.name_at.Goals as goal
-
-pub overflow_cast-len : goal.overflow_cast-len
-overflow_cast-len c = omega (arith, c.type_inv.table (slot_size * c.args.i))
-
-pub overflow_add-result : goal.overflow_add-result
-overflow_add-result c = omega (arith, c.type_inv.table (slot_size * c.args.i))
-
-pub slice_bounds-result-end : goal.slice_bounds-result-end
-slice_bounds-result-end c = omega (arith, c.type_inv.table (slot_size * c.args.i))
 
 pub returns : goal.returns
 unfolding name_at

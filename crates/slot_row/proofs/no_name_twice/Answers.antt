@@ -1,16 +1,9 @@
-use Prim.Native.Nat.{◌-◌}
 use native.Mathlib.Omega.{arith}
-use borrow.Author.Rules.{rules}
-use borrow.Author.Tests.{not-true, not-false}
 use Rattle.base.proofs.Tests.{yes_by, no_by}
-use Rattle.slots.specs.Promise.{OfTable}
 use Rattle.slots.specs.Sizes.{most_names}
-use Rattle.slots.proofs.NameLaws.{Compared, compared_none, compared_end, compared_more, entry_at, distinct_own}
+use Rattle.slots.proofs.NameLaws.{compared_end, compared_more, entry_at, distinct_own}
 use Rattle.slots.proofs.TableLaws.{length_table, no_more, none_at, some_at}
 use Rattle.slot_row.proofs.no_name_twice.Goals as goal
-
-pub loop-i-init : goal.loop-i-init
-loop-i-init c = λ t h. compared_none t
 
 pub bounds-table-i : goal.bounds-table-i
 bounds-table-i c =
@@ -21,9 +14,6 @@ pub returns-then-table-i-eq0 : goal.returns-then-table-i-eq0
 returns-then-table-i-eq0 c = λ t h.
     let s = c.loop-i.invariant t h in
     yes_by (compared_end t c.loop-i.i s (none_at most_names t _ h c.loop-i.i s.low c.if-table-i-eq0.true))
-
-pub is_first-requires : goal.is_first-requires
-is_first-requires c = (c.requires, c.loop-i-test.true)
 
 pub returns-then-not-is_first : goal.returns-then-not-is_first
 returns-then-not-is_first c = λ t h.

@@ -1,7 +1,6 @@
 use Rattle.harness.proofs.LineLaws.{one_more}
 use Rattle.base.specs.Bytes.{ascii}
 use Rattle.harness.specs.Printing.{refusal}
-use borrow.Author.Rules.{rules}
 use Rattle.harness.proofs.Line.refusal.Goals as goal
 
 pub returns : goal.returns

@@ -1,7 +1,6 @@
 use Rattle.base.specs.Bytes.{ascii}
 use Rattle.harness.specs.Printing.{resource_record}
 use Rattle.harness.proofs.LineLaws.{one_more}
-use borrow.Author.Rules.{rules}
 use Rattle.harness.proofs.Line.resource_record.Goals as goal
 
 pub returns : goal.returns
