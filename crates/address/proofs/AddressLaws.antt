@@ -1,23 +1,25 @@
 -- The forms of A and AAAA, as the reader of numbers has them, are those of specs/Address.antt. Assumes nothing.
-use Prim.Native.Nat.{ℕ, ◌-◌, ◌*◌, ◌^◌, ◌%◌, ◌≤◌, ◌<◌}
+use Prim.Native.Nat.{ℕ, ◌-◌, ◌*◌, ◌^◌, ◌≤◌, ◌<◌}
 use mathlib.Core.Bool.{true≢false}
 use mathlib.Core.Path.{◌≡◌, refl, sym, ap, ◌∙◌, subst}
+use mathlib.Core.Logic.{◌⊎◌}
 use mathlib.Core.List.{List, [], ◌∷◌, ◌++◌, map, append-nil}
 use native.Mathlib.Nat.{one-mul, pow-le-pow_right}
 use native.Mathlib.Omega.{arith}
 use lib.ListN.{length, get_or, replicate, get_or-append}
 use lib.Seq.{ext_get_or}
+use Rattle.std.specs.Prelude.{Some}
 use Rattle.base.specs.Bytes.{in_bytes, tabulate}
 use Rattle.base.specs.Logic.{Every, Pairwise}
-use Rattle.base.proofs.Fill.{length_tabulate, get_d_tabulate}
+use Rattle.base.proofs.Fill.{length_tabulate, looked_up}
 use Rattle.base.proofs.Lists.{every_at, pairwise_by, pairwise_second}
 use Rattle.text.specs.Digits.{digit_value, value, separated, decimal}
 use Rattle.address.specs.Address.{SpellsA, Group, SpellsAAAA, written_a}
 use Rattle.address.specs.Forms.{octets, groups}
-use Rattle.text.specs.Field.{Field, Fields, Usable, Numbered}
-use Rattle.text.specs.declared.field.Numbers.{Numbers}
+use Rattle.text.specs.Field.{Field, Fields, Usable, Numbered, NotNumbered}
 use Rattle.text.proofs.DigitLaws.{length_decimal, decimal_number, decimal_shortest, decimal_only, below_power}
 use Rattle.text.proofs.FieldLaws.{fields_one}
+use Rattle.text.proofs.ScanLaws.{were_read}
 
 pub octets_usable : Usable octets
 unfolding digit_value
@@ -85,34 +87,38 @@ pub fields_aaaa : (w ns : List ℕ) → Fields groups w ns → SpellsAAAA w (in_
 fields_aaaa w ns h =
     record { parts = h.parts; numbers = ns; word = h.word; groups = pairwise_by field_group h.fields; eight = h.count; bytes = refl }
 
--- ---- the numbers as bytes
-
--- the lowest bytes of bytes, from where zeros follow them, are those bytes
-pub bytes_of_lem : (ns zs : List ℕ) → Every (λ n. n < 256) ns → tabulate (λ i. get_or (ns ++ zs) i 0 % 256) (length ns) ≡ ns
-bytes_of_lem ns zs small =
-    ext_get_or 0 (tabulate (λ i. get_or (ns ++ zs) i 0 % 256) (length ns)) ns (length_tabulate (λ i. get_or (ns ++ zs) i 0 % 256) (length ns))
-    (λ i lt.
-    let within : i < length ns = omega (arith, length_tabulate (λ i. get_or (ns ++ zs) i 0 % 256) (length ns)) in
-    get_d_tabulate (λ i. get_or (ns ++ zs) i 0 % 256) (length ns) i within
-    ∙ ap (λ (x : ℕ). x % 256) (get_or-append ns zs 0 i within)
-    ∙ (let byte : get_or ns i 0 < 256 = every_at ns small i within in omega arith))
-
 -- ---- what the reader of numbers answered
 
-pub a_read : (w : List ℕ) (r : Numbers) (bytes : List ℕ) → Numbered octets w r → bytes ≡ tabulate (λ i. get_or r.values i 0 % 256) 4 → SpellsA w bytes
-a_read w r bytes y e =
-    let ns : List ℕ = y.numbers in
-    let is : bytes ≡ ns =
-    e ∙ (λ i. tabulate (λ j. get_or (y.values i) j 0 % 256) (sym y.fields.count i))
-    ∙ bytes_of_lem ns (replicate (8 - length ns) 0) (octets_small w ns y.fields) in
-    subst (SpellsA w) (sym is) (fields_a w ns y.fields)
+module _ (w vs : List ℕ) where
+  module _ (answer : Numbered octets w (Some vs) ⊎ NotNumbered octets w (Some vs)) where
+    -- the first four values are the numbers
+    number_at : (i : ℕ) → i < 4 → let ns = (were_read answer).0 in (i < length ns) × (get_or vs i 0 ≡ get_or ns i 0)
+    number_at i lt =
+        let r = were_read answer in
+        let within : i < length r.0 = omega (arith, r.1.count) in
+        (within, ap (λ (l : List ℕ). get_or l i 0) r.2 ∙ get_or-append r.0 (replicate (8 - length r.0) 0) 0 i within)
 
-pub aaaa_read : (w : List ℕ) (r : Numbers) (bytes : List ℕ) → Numbered groups w r → bytes ≡ in_bytes 2 r.values → SpellsAAAA w bytes
-aaaa_read w r bytes y e =
-    let ns : List ℕ = y.numbers in
-    let none : 8 - length ns ≡ 0 = omega (arith, y.fields.count) in
-    let is : r.values ≡ ns = y.values ∙ ap (λ (k : ℕ). ns ++ replicate k 0) none ∙ append-nil ns in
-    subst (SpellsAAAA w) (sym (e ∙ ap (in_bytes 2) is)) (fields_aaaa w ns y.fields)
+    pub octet_at : (i : ℕ) → i < 4 → get_or vs i 0 < 256
+    octet_at i lt =
+        let r = were_read answer in
+        let n = number_at i lt in
+        omega (arith, n.1, every_at r.0 (octets_small w r.0 r.1) i n.0)
+
+    pub a_read : (bytes : List ℕ) → bytes ≡ tabulate (λ i. get_or vs i 0) 4 → SpellsA w bytes
+    a_read bytes e =
+        let r = were_read answer in
+        let four : length bytes ≡ 4 = ap length e ∙ length_tabulate (λ i. get_or vs i 0) 4 in
+        let is : bytes ≡ r.0 =
+        ext_get_or 0 bytes r.0 (four ∙ sym r.1.count)
+        (λ i lt. let within : i < 4 = omega arith in looked_up (λ k. get_or vs k 0) 4 e i within ∙ (number_at i within).1) in
+        subst (SpellsA w) (sym is) (fields_a w r.0 r.1)
+
+  pub aaaa_read : (bytes : List ℕ) → Numbered groups w (Some vs) ⊎ NotNumbered groups w (Some vs) → bytes ≡ in_bytes 2 vs → SpellsAAAA w bytes
+  aaaa_read bytes answer e =
+      let r = were_read answer in
+      let none : 8 - length r.0 ≡ 0 = omega (arith, r.1.count) in
+      let is : vs ≡ r.0 = r.2 ∙ ap (λ (k : ℕ). r.0 ++ replicate k 0) none ∙ append-nil r.0 in
+      subst (SpellsAAAA w) (sym (e ∙ ap (in_bytes 2) is)) (fields_aaaa w r.0 r.1)
 
 -- ---- one word, one address
 

@@ -1,12 +1,9 @@
 -- An AAAA of 39 bytes: each of its groups has four digits, so that all stand at places that are known. Assumes nothing.
 use Prim.Native.Nat.{ℕ, zero, suc, ◌+◌, ◌*◌, ◌/◌, ◌%◌, ◌≤◌, ◌<◌}
-use mathlib.Core.Bool.{Bool, false}
 use mathlib.Core.Path.{◌≡◌, refl, sym, ap, subst, ◌∙◌}
-use mathlib.Core.Logic.{⊎_elim}
 use mathlib.Core.List.{List, [], ◌∷◌, ◌++◌}
-use native.Mathlib.Nat.{eq-or-lt_of_le}
 use native.Mathlib.Omega.{arith}
-use lib.ListN.{length, get_or, replicate, get_or-append}
+use lib.ListN.{length, get_or, get_or-append}
 use lib.Seq.{ext_get_or, get_or_at, get_or-append-add}
 use Rattle.base.specs.Bytes.{big_endian, in_bytes, tabulate}
 use Rattle.base.specs.Logic.{Every, Pairwise}
@@ -14,15 +11,8 @@ use Rattle.base.proofs.Fill.{length_tabulate, get_d_tabulate}
 use Rattle.base.proofs.Lists.{every_at}
 use Rattle.base.proofs.Fill.{looked_up}
 use Rattle.text.specs.Digits.{digit_value, value, separated}
-use Rattle.text.specs.Reading.{Decodes, none_read}
 use Rattle.text.proofs.PartLaws.{total, total_separated}
 use Rattle.address.specs.Address.{Group, SpellsAAAA}
-
--- what holds below n, and at n, holds below n + 1
-pub one_more : (P : ℕ → Type 0) (n : ℕ) → ((m : ℕ) → m < n → P m) → P n → (m : ℕ) → m < n + 1 → P m
-one_more P n h p m lt =
-    let le : m ≤ n = omega arith in
-    ⊎_elim (λ e. subst P (sym e) p) (λ below. h m below) (eq-or-lt_of_le le)
 
 -- byte k of the address, from its two digits, and that both are digits
 unfoldable pub byte_at : List ℕ → ℕ → ℕ
@@ -215,8 +205,3 @@ module _ (w bs : List ℕ) (long : length w ≡ 39) (s : SpellsAAAA w bs) where
         high = subst (λ (p : ℕ). digit_value (get_or w p 0) < 16) high (g.digits (2 * (k % 2)) (omega arith));
         low = subst (λ (p : ℕ). digit_value (get_or w p 0) < 16) low (g.digits (2 * (k % 2) + 1) (omega arith));
       }
-
--- ---- the answer that there is none
-
-pub none_spelled : (w : List ℕ) {found : Bool} {bytes : List ℕ} → (found ≡ false) × (bytes ≡ replicate 16 0) → ((bs : List ℕ) → SpellsAAAA w bs → ⊥) → Decodes (SpellsAAAA w) found bytes
-none_spelled w is h = none_read is.0 h (is.1 ∙ sym (ap (λ (l : List ℕ). replicate (length l) 0) is.1))

@@ -1,5 +1,5 @@
 -- The parts of a written address, one at a time, and how long they are. Assumes nothing.
-use Prim.Native.Nat.{ℕ, zero, suc, ◌+◌, ◌*◌, ◌/◌, ◌%◌, ◌<◌}
+use Prim.Native.Nat.{ℕ, zero, suc, ◌+◌, ◌*◌, ◌/◌, ◌%◌, ◌≤◌, ◌<◌}
 use mathlib.Core.Path.{◌≡◌, refl, sym, ap, ◌∙◌}
 use mathlib.Core.List.{List, [], ◌∷◌, ◌++◌, map}
 use native.Mathlib.Numerals.{add-one}
@@ -27,13 +27,13 @@ octet_part bs i within =
 
 -- ---- AAAA
 
-pub total_four : (bs : List ℕ) → total (four_digits bs) ≡ 5 * length (four_digits bs)
+total_four : (bs : List ℕ) → total (four_digits bs) ≡ 5 * length (four_digits bs)
 unfolding four_digits four_of total
 total_four [] = total_none
 total_four (a ∷ []) = total_none
 total_four (a ∷ b ∷ bs) = omega (arith, total_four bs)
 
-pub length_four : (bs : List ℕ) → length bs % 2 ≡ 0 → 2 * length (four_digits bs) ≡ length bs
+length_four : (bs : List ℕ) → length bs % 2 ≡ 0 → 2 * length (four_digits bs) ≡ length bs
 unfolding four_digits
 length_four [] e = refl
 length_four (a ∷ []) e = absurd (omega arith)
@@ -50,18 +50,22 @@ four_at (a ∷ b ∷ bs) (suc i) j e within =
     let two : suc (suc (i + i)) ≡ j = omega arith in
     four_at bs i (i + i) refl (omega arith) ∙ ap (λ (k : ℕ). four_of (get_or (a ∷ b ∷ bs) k 0) (get_or (a ∷ b ∷ bs) (suc k) 0)) two
 
-pub four_part : (bs : List ℕ) (i : ℕ) → length bs % 2 ≡ 0 → 2 * i + 1 < length bs
-    → take (suc i) (four_digits bs) ≡ take i (four_digits bs) ++ (four_of (get_or bs (2 * i) 0) (get_or bs (2 * i + 1) 0) ∷ [])
-four_part bs i even within =
-    let twice : 2 * i ≡ i + i = omega arith in
-    take-suc (four_digits bs) i [] (omega (arith, length_four bs even))
-    ∙ ap (λ (p : List ℕ). take i (four_digits bs) ++ (p ∷ []))
-    (four_at bs i (2 * i) twice (omega arith) ∙ ap (λ (k : ℕ). four_of (get_or bs (2 * i) 0) (get_or bs k 0)) (sym (add-one (2 * i))))
+module _ (bs : List ℕ) (long : length bs ≡ 16) where
+  pub eight_parts : length (four_digits bs) ≡ 8
+  eight_parts = omega (arith, length_four bs (omega arith))
 
-pub length_written : (bs : List ℕ) → length bs ≡ 16 → length (separated 58 (four_digits bs)) ≡ 39
-length_written bs long =
-    let eight : length (four_digits bs) ≡ 8 = omega (arith, length_four bs (omega arith)) in
-    omega (arith, total_four bs, total_separated 58 (four_digits bs) (omega arith))
+  pub length_written : length (separated 58 (four_digits bs)) ≡ 39
+  length_written = omega (arith, eight_parts, total_four bs, total_separated 58 (four_digits bs) (omega (arith, eight_parts)))
+
+  pub written_fits : (at room : ℕ) → at + 39 ≤ room → at + length (separated 58 (four_digits bs)) ≤ room
+  written_fits at room fits = omega (arith, length_written)
+
+  pub part_at : (i : ℕ) → i < 8 → take (suc i) (four_digits bs) ≡ take i (four_digits bs) ++ (four_of (get_or bs (2 * i) 0) (get_or bs (2 * i + 1) 0) ∷ [])
+  part_at i lt =
+      let twice : 2 * i ≡ i + i = omega arith in
+      take-suc (four_digits bs) i [] (omega (arith, eight_parts))
+      ∙ ap (λ (p : List ℕ). take i (four_digits bs) ++ (p ∷ []))
+      (four_at bs i (2 * i) twice (omega arith) ∙ ap (λ (k : ℕ). four_of (get_or bs (2 * i) 0) (get_or bs k 0)) (sym (add-one (2 * i))))
 
 -- ---- what is written spells what was written
 

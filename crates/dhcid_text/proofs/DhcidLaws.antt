@@ -3,13 +3,16 @@ use Prim.Native.Nat.{ℕ, suc, ◌+◌, ◌-◌, ◌*◌, ◌/◌, ◌%◌, ◌�
 use mathlib.Core.Path.{◌≡◌, refl, sym, ap, ap₂, subst, ◌∙◌}
 use mathlib.Core.List.{List, [], ◌∷◌, ◌++◌, append_assoc, append-nil}
 use native.Mathlib.Omega.{arith}
-use lib.ListN.{length, get_or, set, replicate, length-append, get_or-append, take, drop}
-use lib.Seq.{append_snoc, set-append_seam, get_or-append_seam, get_or-append-add, get_or_at, drop-cons, take-add}
+use lib.ListN.{length, get_or, set, replicate, length-append, length-drop, get_or-append, take, drop}
+use lib.Seq.{append_snoc, set-append_seam, get_or-append_seam, get_or-append-add, get_or_at, take-add, take_at, drop_at, drop-drop}
+use Rattle.std.proofs.lemmas.Slice.Eq.{text_from_reads}
 use Rattle.base.specs.Bytes.{zero_filled}
 use Rattle.base.specs.Logic.{Every}
 use Rattle.dhcid_text.specs.Dhcid.{digit64, base64}
 use Rattle.dhcid_text.specs.Base64.{value64}
 use Rattle.dhcid_text.specs.DhcidReading.{state_of, Quantum, Begun64, Done64, Refused64, Text64}
+use Rattle.dhcid_text.specs.declared.Form.{Form}
+use Rattle.dhcid_text.specs.declared.Form.TheVariants.{Base64, Refused}
 use Rattle.dhcid_text.specs.declared.DhcidWords.{DhcidWords}
 use Rattle.dhcid_text.proofs.HexLaws.{take_one}
 use Rattle.dhcid_text.proofs.Base64Laws.{value_digit, digit_value_lem, same_digit, base64_on, length_whole, length_base64, Shape, shape}
@@ -37,7 +40,7 @@ all_stored out e =
 
 -- ---- one digit of base64
 
-module _ (s r : DhcidWords) (v : ℕ) (hv : v < 64) (more : s.count < 47) (cs : List ℕ) (h : Begun64 cs s) (form : r.form ≡ 1) (count : r.count ≡ s.count + 1) where
+module _ (s r : DhcidWords) (v : ℕ) (hv : v < 64) (more : s.count < 47) (cs : List ℕ) (h : Begun64 cs s) (form : r.form ≡ Base64) (count : r.count ≡ s.count + 1) where
   chars_more : (t : List ℕ) → h.digits ≡ t → cs ++ digit64 v ∷ [] ≡ base64 h.whole ++ (t ++ digit64 v ∷ [])
   chars_more t e =
       ap (λ (l : List ℕ). l ++ digit64 v ∷ []) (h.chars ∙ ap (λ (l : List ℕ). base64 h.whole ++ l) e)
@@ -158,16 +161,16 @@ module _ (s r : DhcidWords) (v : ℕ) (hv : v < 64) (more : s.count < 47) (cs : 
 -- ---- a whole group of digits
 
 -- the four digits of a group, one after the other: three bytes more
-pub whole_quantum : (n p a b c d : ℕ) (o cs : List ℕ) → (a < 64) × (b < 64) × (c < 64) × (d < 64) → n % 4 ≡ 0 → n < 44 → Begun64 cs (state_of 1 n p o)
+pub whole_quantum : (n p a b c d : ℕ) (o cs : List ℕ) → (a < 64) × (b < 64) × (c < 64) × (d < 64) → n % 4 ≡ 0 → n < 44 → Begun64 cs (state_of Base64 n p o)
     → Begun64 (cs ++ digit64 a ∷ digit64 b ∷ digit64 c ∷ digit64 d ∷ [])
-    (state_of 1 (n + 4) p (set (set (set o (n / 4 * 3) (a * 4 + b / 16)) (n / 4 * 3 + 1) (b % 16 * 16 + c / 4)) (n / 4 * 3 + 2) (c % 4 * 64 + d)))
+    (state_of Base64 (n + 4) p (set (set (set o (n / 4 * 3) (a * 4 + b / 16)) (n / 4 * 3 + 1) (b % 16 * 16 + c / 4)) (n / 4 * 3 + 2) (c % 4 * 64 + d)))
 whole_quantum n p a b c d o cs (ha, hb, hc, hd) m near h =
     let o₂ : List ℕ = set o (n / 4 * 3) (a * 4 + b / 16) in
     let o₃ : List ℕ = set o₂ (n / 4 * 3 + 1) (b % 16 * 16 + c / 4) in
     let o₄ : List ℕ = set o₃ (n / 4 * 3 + 2) (c % 4 * 64 + d) in
-    let s₁ : DhcidWords = state_of 1 (n + 1) a o in
-    let s₂ : DhcidWords = state_of 1 (n + 2) (b % 16) o₂ in
-    let s₃ : DhcidWords = state_of 1 (n + 3) (c % 4) o₃ in
+    let s₁ : DhcidWords = state_of Base64 (n + 1) a o in
+    let s₂ : DhcidWords = state_of Base64 (n + 2) (b % 16) o₂ in
+    let s₃ : DhcidWords = state_of Base64 (n + 3) (c % 4) o₃ in
     let at₂ : n / 4 * 3 ≡ (n + 1) / 4 * 3 = omega arith in
     let at₃ : n / 4 * 3 + 1 ≡ (n + 2) / 4 * 3 + 1 = omega arith in
     let at₄ : n / 4 * 3 + 2 ≡ (n + 3) / 4 * 3 + 2 = omega arith in
@@ -177,32 +180,32 @@ whole_quantum n p a b c d o cs (ha, hb, hc, hd) m near h =
     let cs₁ : List ℕ = cs ++ digit64 a ∷ [] in
     let cs₂ : List ℕ = cs₁ ++ digit64 b ∷ [] in
     let cs₃ : List ℕ = cs₂ ++ digit64 c ∷ [] in
-    let h₁ : Begun64 cs₁ s₁ = first_digit (state_of 1 n p o) s₁ a ha (omega arith) cs h refl refl m refl refl h.group in
+    let h₁ : Begun64 cs₁ s₁ = first_digit (state_of Base64 n p o) s₁ a ha (omega arith) cs h refl refl m refl refl h.group in
     let h₂ : Begun64 cs₂ s₂ = second_digit s₁ s₂ b hb (omega arith) cs₁ h₁ refl (omega arith) (omega arith) refl (ap₂ (set o) at₂ x₂) h₁.group in
     let h₃ : Begun64 cs₃ s₃ = third_digit s₂ s₃ c hc (omega arith) cs₂ h₂ refl (omega arith) (omega arith) refl (ap₂ (set o₂) at₃ x₃) h₂.group in
-    subst (λ (l : List ℕ). Begun64 l (state_of 1 (n + 4) p o₄))
+    subst (λ (l : List ℕ). Begun64 l (state_of Base64 (n + 4) p o₄))
     (append_snoc cs₂ (digit64 c) (digit64 d ∷ []) ∙ append_snoc cs₁ (digit64 b) (digit64 c ∷ digit64 d ∷ []) ∙ append_snoc cs (digit64 a) (digit64 b ∷ digit64 c ∷ digit64 d ∷ []))
-    (fourth_digit s₃ (state_of 1 (n + 4) p o₄) d hd (omega arith) cs₃ h₃ refl (omega arith) (omega arith) (ap₂ (set o₃) at₄ x₄) h₃.group)
+    (fourth_digit s₃ (state_of Base64 (n + 4) p o₄) d hd (omega arith) cs₃ h₃ refl (omega arith) (omega arith) (ap₂ (set o₃) at₄ x₄) h₃.group)
 
 -- of the characters before them, base64 was begun, or is refused already
-quantum_text : (cs four : List ℕ) (f n n' p : ℕ) (o o' : List ℕ) → n < 44 → (Begun64 cs (state_of 1 n p o) → Begun64 (cs ++ four) (state_of 1 n' p o'))
+quantum_text : (cs four : List ℕ) (f : Form) (n n' p : ℕ) (o o' : List ℕ) → n < 44 → (Begun64 cs (state_of Base64 n p o) → Begun64 (cs ++ four) (state_of Base64 n' p o'))
     → Text64 cs (state_of f n p o) → Text64 (cs ++ four) (state_of f n' p o')
 quantum_text cs four f n n' p o o' near step (Text64.begun h) =
-    subst (λ (g : ℕ). Text64 (cs ++ four) (state_of g n' p o')) (sym h.form) (Text64.begun (step (subst (λ (g : ℕ). Begun64 cs (state_of g n p o)) h.form h)))
+    subst (λ (g : Form). Text64 (cs ++ four) (state_of g n' p o')) (sym h.form) (Text64.begun (step (subst (λ (g : Form). Begun64 cs (state_of g n p o)) h.form h)))
 quantum_text cs four f n n' p o o' near step (Text64.done h) = absurd (omega (arith, h.count))
 quantum_text cs four f n n' p o o' near step (Text64.refused h) =
     Text64.refused (record { form = h.form; none = λ ds bs small long e. h.none (four ++ ds) bs small long (sym (append_assoc cs four ds) ∙ e) })
 
 -- a word of which no character is passed
-pub none_passed : (w : List ℕ) (f n p : ℕ) (o cs : List ℕ) → Text64 cs (state_of f n p o) → Text64 (cs ++ take 0 w) (state_of f (n + 0) p o)
+pub none_passed : (w : List ℕ) (f : Form) (n p : ℕ) (o cs : List ℕ) → Text64 cs (state_of f n p o) → Text64 (cs ++ take 0 w) (state_of f (n + 0) p o)
 none_passed w f n p o cs h =
     let e : n ≡ n + 0 = omega arith in
     subst (λ (k : ℕ). Text64 (cs ++ take 0 w) (state_of f k p o)) e (subst (λ (l : List ℕ). Text64 l (state_of f n p o)) (sym (append-nil cs)) h)
 
 -- a word of which i characters were passed, and one group more
 pub quantum_passed : (w : List ℕ) (n i : ℕ) (o o' t : List ℕ) → n + i < 44 → t ≡ take 4 (drop i w)
-    → ((cs : List ℕ) (p : ℕ) → Begun64 cs (state_of 1 (n + i) p o) → Begun64 (cs ++ t) (state_of 1 (n + i + 4) p o'))
-    → (f p : ℕ) (cs : List ℕ) → Text64 (cs ++ take i w) (state_of f (n + i) p o) → Text64 (cs ++ take (i + 4) w) (state_of f (n + (i + 4)) p o')
+    → ((cs : List ℕ) (p : ℕ) → Begun64 cs (state_of Base64 (n + i) p o) → Begun64 (cs ++ t) (state_of Base64 (n + i + 4) p o'))
+    → (f : Form) (p : ℕ) (cs : List ℕ) → Text64 (cs ++ take i w) (state_of f (n + i) p o) → Text64 (cs ++ take (i + 4) w) (state_of f (n + (i + 4)) p o')
 quantum_passed w n i o o' t near same step f p cs h =
     let after : n + i + 4 ≡ n + (i + 4) = omega arith in
     let text : cs ++ take i w ++ t ≡ cs ++ take (i + 4) w =
@@ -210,47 +213,51 @@ quantum_passed w n i o o' t near same step f p cs h =
     subst (λ (k : ℕ). Text64 (cs ++ take (i + 4) w) (state_of f k p o')) after
     (subst (λ (l : List ℕ). Text64 l (state_of f (n + i + 4) p o')) text (quantum_text (cs ++ take i w) t f (n + i) (n + i + 4) p o o' near (step (cs ++ take i w) p) h))
 
-next_of : (w : List ℕ) (i j k : ℕ) → j ≡ i + 1 → i < length w → take (suc k) (drop i w) ≡ get_or w i 0 ∷ take k (drop j w)
-next_of w i j k e lt =
-    let e' : suc i ≡ j = omega arith in
-    ap (take (suc k)) (drop-cons w i 0 lt) ∙ ap (λ (m : ℕ). get_or w i 0 ∷ take k (drop m w)) e'
+-- the group g of four characters is what comes next in a word of which i were passed
+module _ (w : List ℕ) (i : ℕ) (g rest : List ℕ) (next : drop i w ≡ g ++ rest) (long : length g ≡ 4) where
+  pub group_next : take 4 (drop i w) ≡ g
+  group_next = ap (take 4) next ∙ take_at g rest 4 long
+
+  pub group_passed : drop (i + 4) w ≡ rest
+  group_passed = sym (drop-drop 4 i w) ∙ ap (drop 4) next ∙ drop_at g rest 4 long
+
+  pub group_within : i + 4 ≤ length w
+  group_within = omega (arith, ap length next, length-drop i w, length-append g rest)
+
+  pub digits_passed : Every (λ x. value64 x < 64) g → Every (λ x. value64 x < 64) (take i w) → Every (λ x. value64 x < 64) (take (i + 4) w)
+  digits_passed here before =
+      subst (Every (λ x. value64 x < 64)) (sym (take-add i 4 w ∙ ap (λ (l : List ℕ). take i w ++ l) group_next)) (every_append (take i w) g before here)
 
 all_four : {x y z v : ℕ} → Every (λ c. value64 c < 64) (x ∷ y ∷ z ∷ v ∷ []) → (value64 x < 64) × (value64 y < 64) × (value64 z < 64) × (value64 v < 64)
 all_four (Every.more hx (Every.more hy (Every.more hz (Every.more hv Every.none)))) = (hx, hy, hz, hv)
 
-module _ (w : List ℕ) (i : ℕ) {a b c d : ℕ} (fits : i + 4 ≤ length w)
-    (ea : a ≡ value64 (get_or w i 0)) (eb : b ≡ value64 (get_or w (i + 1) 0)) (ec : c ≡ value64 (get_or w (i + 2) 0)) (ed : d ≡ value64 (get_or w (i + 3) 0)) where
-  next_four : take 4 (drop i w) ≡ get_or w i 0 ∷ get_or w (i + 1) 0 ∷ get_or w (i + 2) 0 ∷ get_or w (i + 3) 0 ∷ []
-  next_four =
-      next_of w i (i + 1) 3 refl (omega arith)
-      ∙ ap (λ (l : List ℕ). get_or w i 0 ∷ l)
-      (next_of w (i + 1) (i + 2) 2 (omega arith) (omega arith)
-      ∙ ap (λ (l : List ℕ). get_or w (i + 1) 0 ∷ l)
-      (next_of w (i + 2) (i + 3) 1 (omega arith) (omega arith)
-      ∙ ap (λ (l : List ℕ). get_or w (i + 2) 0 ∷ l) (next_of w (i + 3) (i + 4) 0 (omega arith) (omega arith))))
+-- the values of a group's four characters
+module _ (g : List ℕ) {a b c d : ℕ} (long : length g ≡ 4)
+    (ea : a ≡ value64 (get_or g 0 0)) (eb : b ≡ value64 (get_or g 1 0)) (ec : c ≡ value64 (get_or g 2 0)) (ed : d ≡ value64 (get_or g 3 0)) where
+  four : g ≡ get_or g 0 0 ∷ get_or g 1 0 ∷ get_or g 2 0 ∷ get_or g 3 0 ∷ []
+  four = text_from_reads g _ long (refl, (refl, (refl, (refl, tt))))
 
-  pub no_quantum : ((a < 64) × (b < 64) × (c < 64) × (d < 64) → ⊥) → Every (λ x. value64 x < 64) (take 4 (drop i w)) → ⊥
+  pub no_quantum : ((a < 64) × (b < 64) × (c < 64) × (d < 64) → ⊥) → Every (λ x. value64 x < 64) g → ⊥
   no_quantum other h =
-      let s = all_four (subst (Every (λ x. value64 x < 64)) next_four h) in
+      let s = all_four (subst (Every (λ x. value64 x < 64)) four h) in
       other (omega (arith, s.0), omega (arith, s.1), omega (arith, s.2), omega (arith, s.3))
 
   module _ (h : (a < 64) × (b < 64) × (c < 64) × (d < 64)) where
-    pub quantum_digits : digit64 a ∷ digit64 b ∷ digit64 c ∷ digit64 d ∷ [] ≡ take 4 (drop i w)
+    pub quantum_digits : digit64 a ∷ digit64 b ∷ digit64 c ∷ digit64 d ∷ [] ≡ g
     quantum_digits =
-        (λ i₀. digit64 (ea i₀) ∷ digit64 (eb i₀) ∷ digit64 (ec i₀) ∷ digit64 (ed i₀) ∷ [])
-        ∙ (λ i₀.
-        digit_value_lem (get_or w i 0) (omega (arith, h.0)) i₀
-        ∷ digit_value_lem (get_or w (i + 1) 0) (omega (arith, h.1)) i₀
-        ∷ digit_value_lem (get_or w (i + 2) 0) (omega (arith, h.2)) i₀
-        ∷ digit_value_lem (get_or w (i + 3) 0) (omega (arith, h.3)) i₀
+        (λ i. digit64 (ea i) ∷ digit64 (eb i) ∷ digit64 (ec i) ∷ digit64 (ed i) ∷ [])
+        ∙ (λ i.
+        digit_value_lem (get_or g 0 0) (omega (arith, h.0)) i
+        ∷ digit_value_lem (get_or g 1 0) (omega (arith, h.1)) i
+        ∷ digit_value_lem (get_or g 2 0) (omega (arith, h.2)) i
+        ∷ digit_value_lem (get_or g 3 0) (omega (arith, h.3)) i
         ∷ [])
-        ∙ sym next_four
+        ∙ sym four
 
-    pub digits_passed : Every (λ x. value64 x < 64) (take i w) → Every (λ x. value64 x < 64) (take (i + 4) w)
-    digits_passed before =
-        subst (Every (λ x. value64 x < 64)) (sym (take-add i 4 w ∙ ap (λ (l : List ℕ). take i w ++ l) next_four))
-        (every_append (take i w) _ before
-        (Every.more (omega (arith, h.0)) (Every.more (omega (arith, h.1)) (Every.more (omega (arith, h.2)) (Every.more (omega (arith, h.3)) Every.none)))))
+    pub group_digits : Every (λ x. value64 x < 64) g
+    group_digits =
+        subst (Every (λ x. value64 x < 64)) (sym four)
+        (Every.more (omega (arith, h.0)) (Every.more (omega (arith, h.1)) (Every.more (omega (arith, h.2)) (Every.more (omega (arith, h.3)) Every.none))))
 
 -- ---- what 35 bytes' base64 tells of a character
 
@@ -311,17 +318,17 @@ module _ (cs : List ℕ) (b : ℕ) (s : DhcidWords) where
   refused_stays : Refused64 cs s → Refused64 (cs ++ b ∷ []) s
   refused_stays h = record { form = h.form; none = λ ds bs small long e. h.none (b ∷ ds) bs small long (sym (append_snoc cs b ds) ∙ e) }
 
-  pub other_form : (s.form ≡ 1 → ⊥) → Text64 cs s → Text64 (cs ++ b ∷ []) s
+  pub other_form : (s.form ≡ Base64 → ⊥) → Text64 cs s → Text64 (cs ++ b ∷ []) s
   other_form other (Text64.begun h) = absurd (other h.form)
   other_form other (Text64.done h) = absurd (other h.form)
   other_form other (Text64.refused h) = Text64.refused (refused_stays h)
 
-  pub at_last : (r : DhcidWords) → s.form ≡ 1 → s.count ≡ 47 → (Begun64 cs s → Text64 (cs ++ b ∷ []) r) → Text64 cs s → Text64 (cs ++ b ∷ []) r
+  pub at_last : (r : DhcidWords) → s.form ≡ Base64 → s.count ≡ 47 → (Begun64 cs s → Text64 (cs ++ b ∷ []) r) → Text64 cs s → Text64 (cs ++ b ∷ []) r
   at_last r f n step (Text64.begun h) = step h
   at_last r f n step (Text64.done h) = absurd (omega (arith, h.count))
-  at_last r f n step (Text64.refused h) = absurd (omega (arith, h.form))
+  at_last r f n step (Text64.refused h) = cc
 
-  module _ (r : DhcidWords) (over : r.form ≡ 4) (f : s.form ≡ 1) where
+  module _ (r : DhcidWords) (over : r.form ≡ Refused) (f : s.form ≡ Base64) where
     refuse : ((ds bs : List ℕ) → Every (λ x. x < 256) bs → length bs ≡ 35 → cs ++ b ∷ [] ++ ds ≡ base64 bs → ⊥) → Text64 (cs ++ b ∷ []) r
     refuse none = Text64.refused (record { form = over; none = none })
 
@@ -330,13 +337,13 @@ module _ (cs : List ℕ) (b : ℕ) (s : DhcidWords) where
     too_many n (Text64.done h) =
         refuse
         (λ ds bs small long e. no_next bs small long cs ds b e (omega (arith, ap length h.chars, length_base64 s.bytes h.long)))
-    too_many n (Text64.refused h) = absurd (omega (arith, h.form))
+    too_many n (Text64.refused h) = cc
 
     pub no_digit : (s.count ≡ 47 → ⊥) → s.count ≤ 47 → 63 < value64 b → Text64 cs s → Text64 (cs ++ b ∷ []) r
     no_digit other n v (Text64.begun h) =
         refuse (λ ds bs small long e. omega (arith, next_digit bs small long cs ds b e (omega (arith, length_begun cs s h))))
     no_digit other n v (Text64.done h) = absurd (omega (arith, h.count))
-    no_digit other n v (Text64.refused h) = absurd (omega (arith, h.form))
+    no_digit other n v (Text64.refused h) = cc
 
     pub no_pad : s.count ≡ 47 → (b ≡ 61 → ⊥) → Begun64 cs s → Text64 (cs ++ b ∷ []) r
     no_pad n other h = refuse (λ ds bs small long e. other (next_pad bs small long cs ds b e (length_begun cs s h ∙ n)))
@@ -358,17 +365,17 @@ module _ (cs : List ℕ) (b : ℕ) (s : DhcidWords) where
     pub spare_bits : s.count ≡ 47 → (s.pending ≡ 0 → ⊥) → Begun64 cs s → Text64 (cs ++ b ∷ []) r
     spare_bits n set h = refuse (λ ds bs small long e. spare (b ∷ ds) bs small long (sym (append_snoc cs b ds) ∙ e) h n set h.group)
 
-  pub another_digit : (r : DhcidWords) (v : ℕ) → s.form ≡ 1 → s.count < 47 → v ≡ value64 b → v < 64
+  pub another_digit : (r : DhcidWords) (v : ℕ) → s.form ≡ Base64 → s.count < 47 → v ≡ value64 b → v < 64
       → (Begun64 cs s → Begun64 (cs ++ digit64 v ∷ []) r) → Text64 cs s → Text64 (cs ++ b ∷ []) r
   another_digit r v f n e hv step (Text64.begun h) =
       let same : digit64 v ≡ b = ap digit64 e ∙ digit_value_lem b (omega arith) in
       Text64.begun (subst (λ (x : ℕ). Begun64 (cs ++ x ∷ []) r) same (step h))
   another_digit r v f n e hv step (Text64.done h) = absurd (omega (arith, h.count))
-  another_digit r v f n e hv step (Text64.refused h) = absurd (omega (arith, h.form))
+  another_digit r v f n e hv step (Text64.refused h) = cc
 
 -- ---- the last character
 
-module _ (cs : List ℕ) (b : ℕ) (s r : DhcidWords) (h : Begun64 cs s) (n : s.count ≡ 47) (pad : b ≡ 61) (none : s.pending ≡ 0) (form : r.form ≡ 1) (count : r.count ≡ 48) (bytes : r.bytes ≡ s.bytes) where
+module _ (cs : List ℕ) (b : ℕ) (s r : DhcidWords) (h : Begun64 cs s) (n : s.count ≡ 47) (pad : b ≡ 61) (none : s.pending ≡ 0) (form : r.form ≡ Base64) (count : r.count ≡ 48) (bytes : r.bytes ≡ s.bytes) where
   finished : Quantum h.read s.pending h.digits h.last → Done64 (cs ++ b ∷ []) r
   unfolding base64
   finished (Quantum.none r t g) = absurd (omega (arith, h.count))

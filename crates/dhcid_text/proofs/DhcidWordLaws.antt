@@ -5,7 +5,7 @@ use mathlib.Core.Path.{◌≡◌, refl, sym, ap, subst, ◌∙◌}
 use mathlib.Core.Logic.{◌⊎◌, inl, inr, ⊎_elim}
 use mathlib.Core.List.{List, [], ◌∷◌, ◌++◌, append_assoc, append-nil, nil≢cons, head-eq_of_cons-eq, tail-eq_of_cons-eq}
 use native.Mathlib.Omega.{arith}
-use lib.ListN.{replicate, length, set, length-append}
+use lib.ListN.{length, set, length-append}
 use lib.Seq.{append_snoc}
 use Rattle.base.specs.Bytes.{ascii}
 use Rattle.base.specs.Dhcid.{well_formed}
@@ -14,11 +14,10 @@ use Rattle.base.proofs.DhcidLaws.{dhcid_length}
 use Rattle.base.proofs.Lists.{every_append, every_middle, pairwise_on}
 use Rattle.text.specs.Digits.{digit_value}
 use Rattle.dhcid_text.specs.Dhcid.{base64, joined, HexByte, Generic, SpellsDhcid, marker, thirty_five}
-use Rattle.text.specs.Reading.{Decodes, none_read}
 use Rattle.dhcid_text.specs.Base64.{value64}
-use Rattle.dhcid_text.specs.DhcidReading.{Fresh, Quantum, Refused64, Text64, Begun16, Refused16, Text16, After, no_dhcid}
+use Rattle.dhcid_text.specs.DhcidReading.{Fresh, Quantum, Refused64, Text64, Begun16, Refused16, Text16, After}
+use Rattle.dhcid_text.specs.declared.Form.TheVariants.{Nothing, Base64, Marked, Digits, Refused}
 use Rattle.dhcid_text.specs.declared.DhcidWords.{DhcidWords}
-use Rattle.dhcid_text.specs.declared.ReadDhcid.{ReadDhcid}
 use Rattle.dhcid_text.proofs.Base64Laws.{same_bytes, length_base64}
 use Rattle.dhcid_text.proofs.HexLaws.{joined_on, joined_word, hex_byte, length_pairs, digits_pairs, same_pairs}
 use Rattle.dhcid_text.proofs.DhcidLaws.{stored, all_stored, length_begun, next_digit}
@@ -26,13 +25,13 @@ use Rattle.dhcid_text.proofs.DhcidLaws.{stored, all_stored, length_begun, next_d
 -- ---- two hexadecimal digits
 
 module _ (ds : List ℕ) (x y : ℕ) (s : DhcidWords) where
-  pub other_form16 : (s.form ≡ 3 → ⊥) → Text16 ds s → Text16 (ds ++ x ∷ y ∷ []) s
+  pub other_form16 : (s.form ≡ Digits → ⊥) → Text16 ds s → Text16 (ds ++ x ∷ y ∷ []) s
   other_form16 other (Text16.begun h) = absurd (other h.form)
   other_form16 other (Text16.refused h) =
       Text16.refused
       (record { form = h.form; none = λ es ps bs p long e. h.none (x ∷ y ∷ es) ps bs p long (sym (append_assoc ds (x ∷ y ∷ []) es) ∙ e) })
 
-  module _ (r : DhcidWords) (fresh : Fresh 4 r) (f : s.form ≡ 3) where
+  module _ (r : DhcidWords) (fresh : Fresh Refused r) (f : s.form ≡ Digits) where
     refuse : ((es : List ℕ) (ps : List (List ℕ)) (bs : List ℕ) → Pairwise HexByte ps bs → length bs ≡ 35 → ds ++ x ∷ y ∷ [] ++ es ≡ joined ps → ⊥)
         → Text16 (ds ++ x ∷ y ∷ []) r
     refuse none = Text16.refused (record { form = fresh.form; none = none })
@@ -51,7 +50,7 @@ module _ (ds : List ℕ) (x y : ℕ) (s : DhcidWords) where
           length_pairs h.pairs h.read h.spelled,
           h.count,
         ))
-    too_many16 n (Text16.refused h) = absurd (omega (arith, h.form))
+    too_many16 n (Text16.refused h) = cc
 
     pub no_high : 15 < digit_value x → Text16 ds s → Text16 (ds ++ x ∷ y ∷ []) r
     no_high v (Text16.begun h) =
@@ -59,7 +58,7 @@ module _ (ds : List ℕ) (x y : ℕ) (s : DhcidWords) where
         (λ es ps bs p long e.
         let all = subst (Every (λ c. digit_value c < 16)) (sym e ∙ append_assoc ds (x ∷ y ∷ []) es) (digits_pairs ps bs p) in
         omega (arith, every_middle ds (y ∷ es) x all))
-    no_high v (Text16.refused h) = absurd (omega (arith, h.form))
+    no_high v (Text16.refused h) = cc
 
     pub no_low : 15 < digit_value y → Text16 ds s → Text16 (ds ++ x ∷ y ∷ []) r
     no_low v (Text16.begun h) =
@@ -68,9 +67,9 @@ module _ (ds : List ℕ) (x y : ℕ) (s : DhcidWords) where
         let parts : ds ++ x ∷ y ∷ [] ++ es ≡ ds ++ x ∷ [] ++ y ∷ es = append_assoc ds (x ∷ y ∷ []) es ∙ sym (append_snoc ds x (y ∷ es)) in
         let all = subst (Every (λ c. digit_value c < 16)) (sym e ∙ parts) (digits_pairs ps bs p) in
         omega (arith, every_middle (ds ++ x ∷ []) es y all))
-    no_low v (Text16.refused h) = absurd (omega (arith, h.form))
+    no_low v (Text16.refused h) = cc
 
-  module _ (r : DhcidWords) (b : ℕ) (f : s.form ≡ 3) (n : s.count ≤ 69) (hx : digit_value x < 16) (hy : digit_value y < 16) (form : r.form ≡ 3) (count : r.count ≡ s.count + 2)
+  module _ (r : DhcidWords) (b : ℕ) (f : s.form ≡ Digits) (n : s.count ≤ 69) (hx : digit_value x < 16) (hy : digit_value y < 16) (form : r.form ≡ Digits) (count : r.count ≡ s.count + 2)
       (byte : b ≡ digit_value x * 16 + digit_value y) (bytes : r.bytes ≡ set s.bytes (s.count / 2) b) where
     pub another_byte : Text16 ds s → Text16 (ds ++ x ∷ y ∷ []) r
     another_byte (Text16.begun h) =
@@ -88,11 +87,11 @@ module _ (ds : List ℕ) (x y : ℕ) (s : DhcidWords) where
               bytes ∙ ap (λ (o : List ℕ). set o (s.count / 2) b) h.bytes
               ∙ stored h.read (s.count / 2) b (omega (arith, h.count)) (omega arith);
         })
-    another_byte (Text16.refused h) = absurd (omega (arith, h.form))
+    another_byte (Text16.refused h) = cc
 
 -- ---- states in which nothing of their form was read
 
-pub fresh_base64 : (s : DhcidWords) → Fresh 1 s → Text64 [] s
+pub fresh_base64 : (s : DhcidWords) → Fresh Base64 s → Text64 [] s
 unfolding base64
 fresh_base64 s h =
     Text64.begun
@@ -112,7 +111,7 @@ fresh_base64 s h =
       bytes = h.bytes;
     })
 
-pub fresh_digits : (s : DhcidWords) → Fresh 3 s → Text16 [] s
+pub fresh_digits : (s : DhcidWords) → Fresh Digits s → Text16 [] s
 unfolding joined
 fresh_digits s h =
     Text16.begun
@@ -177,18 +176,18 @@ after_digits ws s digits e even (Text16.refused h) = After.refused h.form (λ vs
 -- ---- the first words
 
 module _ (w : List ℕ) (r : DhcidWords) where
-  pub first_marker : w ≡ marker → Fresh 2 r → After (w ∷ []) r
+  pub first_marker : w ≡ marker → Fresh Marked r → After (w ∷ []) r
   first_marker m fresh = After.marked fresh.form (ap (λ (x : List ℕ). x ∷ []) m)
 
-  pub first_base64 : (s : DhcidWords) → (w ≡ marker → ⊥) → Fresh 1 s → ((cs : List ℕ) → Text64 cs s → Text64 (cs ++ w) r) → After (w ∷ []) r
+  pub first_base64 : (s : DhcidWords) → (w ≡ marker → ⊥) → Fresh Base64 s → ((cs : List ℕ) → Text64 cs s → Text64 (cs ++ w) r) → After (w ∷ []) r
   unfolding joined
   first_base64 s other fresh step = after_base64 (w ∷ []) r w [] refl other (subst (λ (t : List ℕ). Text64 t r) (sym (append-nil w)) (step [] (fresh_base64 s fresh)))
 
-  pub thirty_five_lem : w ≡ thirty_five → Fresh 3 r → After (marker ∷ w ∷ []) r
+  pub thirty_five_lem : w ≡ thirty_five → Fresh Digits r → After (marker ∷ w ∷ []) r
   unfolding joined
   thirty_five_lem m fresh = after_digits (marker ∷ w ∷ []) r [] (ap (λ (x : List ℕ). marker ∷ x ∷ []) m) Every.none (fresh_digits r fresh)
 
-  pub other_length : (w ≡ thirty_five → ⊥) → Fresh 4 r → After (marker ∷ w ∷ []) r
+  pub other_length : (w ≡ thirty_five → ⊥) → Fresh Refused r → After (marker ∷ w ∷ []) r
   other_length other fresh =
       After.refused fresh.form
       (λ vs bs sp. other (head-eq_of_cons-eq (tail-eq_of_cons-eq (in_generic (marker ∷ w ∷ vs) (w ∷ vs) bs sp refl).words)))
@@ -199,32 +198,32 @@ module _ (ws : List (List ℕ)) (w : List ℕ) (s r : DhcidWords) where
   on : {vs : List (List ℕ)} → ws ≡ vs → ws ++ w ∷ [] ≡ vs ++ w ∷ []
   on e = ap (λ (l : List (List ℕ)). l ++ w ∷ []) e
 
-  pub after_nothing : s.form ≡ 0 → After (w ∷ []) r → After ws s → After (ws ++ w ∷ []) r
+  pub after_nothing : s.form ≡ Nothing → After (w ∷ []) r → After ws s → After (ws ++ w ∷ []) r
   after_nothing f h (After.nothing g e) = subst (λ (l : List (List ℕ)). After l r) (sym (on e)) h
-  after_nothing f h (After.in_base64 g v vs e other t) = absurd (omega arith)
-  after_nothing f h (After.marked g e) = absurd (omega arith)
-  after_nothing f h (After.generic g digits e even d) = absurd (omega arith)
-  after_nothing f h (After.refused g none) = absurd (omega arith)
+  after_nothing f h (After.in_base64 g v vs e other t) = cc
+  after_nothing f h (After.marked g e) = cc
+  after_nothing f h (After.generic g digits e even d) = cc
+  after_nothing f h (After.refused g none) = cc
 
-  pub after_marker : s.form ≡ 2 → After (marker ∷ w ∷ []) r → After ws s → After (ws ++ w ∷ []) r
-  after_marker f h (After.nothing g e) = absurd (omega arith)
-  after_marker f h (After.in_base64 g v vs e other t) = absurd (omega arith)
+  pub after_marker : s.form ≡ Marked → After (marker ∷ w ∷ []) r → After ws s → After (ws ++ w ∷ []) r
+  after_marker f h (After.nothing g e) = cc
+  after_marker f h (After.in_base64 g v vs e other t) = cc
   after_marker f h (After.marked g e) = subst (λ (l : List (List ℕ)). After l r) (sym (on e)) h
-  after_marker f h (After.generic g digits e even d) = absurd (omega arith)
-  after_marker f h (After.refused g none) = absurd (omega arith)
+  after_marker f h (After.generic g digits e even d) = cc
+  after_marker f h (After.refused g none) = cc
 
-  pub next_base64 : s.form ≡ 1 → ((cs : List ℕ) → Text64 cs s → Text64 (cs ++ w) r) → After ws s → After (ws ++ w ∷ []) r
-  next_base64 f step (After.nothing g e) = absurd (omega arith)
+  pub next_base64 : s.form ≡ Base64 → ((cs : List ℕ) → Text64 cs s → Text64 (cs ++ w) r) → After ws s → After (ws ++ w ∷ []) r
+  next_base64 f step (After.nothing g e) = cc
   next_base64 f step (After.in_base64 g v vs e other t) =
       after_base64 (ws ++ w ∷ []) r v (vs ++ w ∷ []) (on e) other (subst (λ (x : List ℕ). Text64 x r) (sym (joined_word ws w)) (step (joined ws) t))
-  next_base64 f step (After.marked g e) = absurd (omega arith)
-  next_base64 f step (After.generic g digits e even h) = absurd (omega arith)
-  next_base64 f step (After.refused g none) = absurd (omega arith)
+  next_base64 f step (After.marked g e) = cc
+  next_base64 f step (After.generic g digits e even h) = cc
+  next_base64 f step (After.refused g none) = cc
 
-  pub odd_word : s.form ≡ 3 → (length w % 2 ≡ 0 → ⊥) → Fresh 4 r → After ws s → After (ws ++ w ∷ []) r
-  odd_word f odd fresh (After.nothing g e) = absurd (omega arith)
-  odd_word f odd fresh (After.in_base64 g v vs e o t) = absurd (omega arith)
-  odd_word f odd fresh (After.marked g e) = absurd (omega arith)
+  pub odd_word : s.form ≡ Digits → (length w % 2 ≡ 0 → ⊥) → Fresh Refused r → After ws s → After (ws ++ w ∷ []) r
+  odd_word f odd fresh (After.nothing g e) = cc
+  odd_word f odd fresh (After.in_base64 g v vs e o t) = cc
+  odd_word f odd fresh (After.marked g e) = cc
   odd_word f odd fresh (After.generic g digits e even h) =
       After.refused fresh.form
       (λ vs bs sp.
@@ -234,46 +233,40 @@ module _ (ws : List (List ℕ)) (w : List ℕ) (s r : DhcidWords) where
       odd
       (every_middle digits vs w
       (subst (Every (λ x. length x % 2 ≡ 0)) (digits_of (ws ++ w ∷ [] ++ vs) (digits ++ w ∷ vs) bs generic e') generic.even)))
-  odd_word f odd fresh (After.refused g none) = absurd (omega arith)
+  odd_word f odd fresh (After.refused g none) = cc
 
-  pub even_word : s.form ≡ 3 → length w % 2 ≡ 0 → ((ds : List ℕ) → Text16 ds s → Text16 (ds ++ w) r) → After ws s → After (ws ++ w ∷ []) r
-  even_word f two step (After.nothing g e) = absurd (omega arith)
-  even_word f two step (After.in_base64 g v vs e o t) = absurd (omega arith)
-  even_word f two step (After.marked g e) = absurd (omega arith)
+  pub even_word : s.form ≡ Digits → length w % 2 ≡ 0 → ((ds : List ℕ) → Text16 ds s → Text16 (ds ++ w) r) → After ws s → After (ws ++ w ∷ []) r
+  even_word f two step (After.nothing g e) = cc
+  even_word f two step (After.in_base64 g v vs e o t) = cc
+  even_word f two step (After.marked g e) = cc
   even_word f two step (After.generic g digits e even h) =
       after_digits (ws ++ w ∷ []) r (digits ++ w ∷ []) (on e) (every_append digits (w ∷ []) even (Every.more two Every.none))
       (subst (λ (x : List ℕ). Text16 x r) (sym (joined_word digits w)) (step (joined digits) (Text16.begun h)))
-  even_word f two step (After.refused g none) = absurd (omega arith)
+  even_word f two step (After.refused g none) = cc
 
-  pub still_refused : 4 ≤ s.form → After ws s → After (ws ++ w ∷ []) s
-  still_refused f (After.nothing g e) = absurd (omega arith)
-  still_refused f (After.in_base64 g v vs e o t) = absurd (omega arith)
-  still_refused f (After.marked g e) = absurd (omega arith)
-  still_refused f (After.generic g digits e even h) = absurd (omega arith)
+  pub still_refused : s.form ≡ Refused → After ws s → After (ws ++ w ∷ []) s
+  still_refused f (After.nothing g e) = cc
+  still_refused f (After.in_base64 g v vs e o t) = cc
+  still_refused f (After.marked g e) = cc
+  still_refused f (After.generic g digits e even h) = cc
   still_refused f (After.refused g none) =
       After.refused g (λ vs bs sp. none (w ∷ vs) bs (subst (λ (l : List (List ℕ)). SpellsDhcid l bs) (append_snoc ws w vs) sp))
 
 -- ---- the answer
 
-pub not_found : (ws : List (List ℕ)) (r : ReadDhcid) → r ≡ no_dhcid → ((bs : List ℕ) → SpellsDhcid ws bs → ⊥) → Decodes (SpellsDhcid ws) r.found r.bytes
-unfolding no_dhcid
-not_found ws r e none =
-    let zeros : r.bytes ≡ replicate 35 0 = ap (λ (x : ReadDhcid). x.bytes) e in
-    none_read (ap (λ (x : ReadDhcid). x.found) e) none (zeros ∙ ap (λ (n : ℕ). replicate n 0) (sym (ap length zeros)))
-
 -- as many characters were read as 35 bytes have
 abbrev pub Complete : DhcidWords → Type 0
-Complete s = ((s.form ≡ 1) × (s.count ≡ 48)) ⊎ ((s.form ≡ 3) × (s.count ≡ 70))
+Complete s = ((s.form ≡ Base64) × (s.count ≡ 48)) ⊎ ((s.form ≡ Digits) × (s.count ≡ 70))
 
 -- the bytes of a state that has all digits
 all_read : (ds : List ℕ) (s : DhcidWords) (h : Begun16 ds s) → s.count ≡ 70 → s.bytes ≡ h.read
 all_read ds s h n = h.bytes ∙ all_stored h.read (omega (arith, h.count))
 
 module _ (ws : List (List ℕ)) (s : DhcidWords) where
-  found64 : s.count ≡ 48 → well_formed s.bytes ≡ true → Text64 (joined ws) s → s.form ≡ 1 → SpellsDhcid ws s.bytes
+  found64 : s.count ≡ 48 → well_formed s.bytes ≡ true → Text64 (joined ws) s → s.form ≡ Base64 → SpellsDhcid ws s.bytes
   found64 n test (Text64.begun h) f = absurd (omega (arith, h.more))
   found64 n test (Text64.done h) f = record { form = inl h.chars; bytes = h.small; test = test }
-  found64 n test (Text64.refused h) f = absurd (omega (arith, h.form))
+  found64 n test (Text64.refused h) f = cc
 
   found16 : (digits : List (List ℕ)) → s.count ≡ 70 → well_formed s.bytes ≡ true → ws ≡ marker ∷ thirty_five ∷ digits → Every (λ w. length w % 2 ≡ 0) digits
       → Begun16 (joined digits) s → SpellsDhcid ws s.bytes
@@ -295,17 +288,17 @@ module _ (ws : List (List ℕ)) (s : DhcidWords) where
       }
 
   pub spelled : Complete s → well_formed s.bytes ≡ true → After ws s → SpellsDhcid ws s.bytes
-  spelled c test (After.nothing g e) = absurd (⊎_elim (λ p. omega arith) (λ p. omega arith) c)
-  spelled c test (After.in_base64 g v vs e other t) = ⊎_elim (λ p. found64 p.1 test t g) (λ p. absurd (omega arith)) c
-  spelled c test (After.marked g e) = absurd (⊎_elim (λ p. omega arith) (λ p. omega arith) c)
-  spelled c test (After.generic g digits e even h) = ⊎_elim (λ p. absurd (omega arith)) (λ p. found16 digits p.1 test e even h) c
-  spelled c test (After.refused g none) = absurd (⊎_elim (λ p. omega arith) (λ p. omega arith) c)
+  spelled c test (After.nothing g e) = ⊎_elim (λ p. cc) (λ p. cc) c
+  spelled c test (After.in_base64 g v vs e other t) = ⊎_elim (λ p. found64 p.1 test t g) (λ p. cc) c
+  spelled c test (After.marked g e) = ⊎_elim (λ p. cc) (λ p. cc) c
+  spelled c test (After.generic g digits e even h) = ⊎_elim (λ p. cc) (λ p. found16 digits p.1 test e even h) c
+  spelled c test (After.refused g none) = ⊎_elim (λ p. cc) (λ p. cc) c
 
   module _ (bs : List ℕ) (sp : SpellsDhcid ws bs) where
-    only64 : s.count ≡ 48 → s.form ≡ 1 → joined ws ≡ base64 bs → Text64 (joined ws) s → bs ≡ s.bytes
+    only64 : s.count ≡ 48 → s.form ≡ Base64 → joined ws ≡ base64 bs → Text64 (joined ws) s → bs ≡ s.bytes
     only64 n f e (Text64.begun h) = absurd (omega (arith, h.more))
     only64 n f e (Text64.done h) = same_bytes bs s.bytes 11 sp.bytes h.small (dhcid_length bs sp.test) h.long (sym e ∙ h.chars)
-    only64 n f e (Text64.refused h) = absurd (omega (arith, h.form))
+    only64 n f e (Text64.refused h) = cc
 
     only16 : (digits : List (List ℕ)) → s.count ≡ 70 → ws ≡ marker ∷ thirty_five ∷ digits → Begun16 (joined digits) s → bs ≡ s.bytes
     only16 digits n e h =
@@ -314,19 +307,19 @@ module _ (ws : List (List ℕ)) (s : DhcidWords) where
         ∙ sym (all_read (joined digits) s h n)
 
     only : Complete s → After ws s → bs ≡ s.bytes
-    only c (After.nothing g e) = absurd (⊎_elim (λ p. omega arith) (λ p. omega arith) c)
-    only c (After.in_base64 g v vs e other t) = ⊎_elim (λ p. only64 p.1 g (in_base64 ws vs bs sp v e other) t) (λ p. absurd (omega arith)) c
-    only c (After.marked g e) = absurd (⊎_elim (λ p. omega arith) (λ p. omega arith) c)
-    only c (After.generic g digits e even h) = ⊎_elim (λ p. absurd (omega arith)) (λ p. only16 digits p.1 e h) c
-    only c (After.refused g none) = absurd (⊎_elim (λ p. omega arith) (λ p. omega arith) c)
+    only c (After.nothing g e) = ⊎_elim (λ p. cc) (λ p. cc) c
+    only c (After.in_base64 g v vs e other t) = ⊎_elim (λ p. only64 p.1 g (in_base64 ws vs bs sp v e other) t) (λ p. cc) c
+    only c (After.marked g e) = ⊎_elim (λ p. cc) (λ p. cc) c
+    only c (After.generic g digits e even h) = ⊎_elim (λ p. cc) (λ p. only16 digits p.1 e h) c
+    only c (After.refused g none) = ⊎_elim (λ p. cc) (λ p. cc) c
 
     pub test_fails : Complete s → well_formed s.bytes ≡ false → After ws s → ⊥
     test_fails c test h = true≢false (sym sp.test ∙ ap well_formed (only c h) ∙ test)
 
-    short64 : (Complete s → ⊥) → joined ws ≡ base64 bs → Text64 (joined ws) s → s.form ≡ 1 → ⊥
+    short64 : (Complete s → ⊥) → joined ws ≡ base64 bs → Text64 (joined ws) s → s.form ≡ Base64 → ⊥
     short64 c e (Text64.begun h) f = omega (arith, h.more, length_begun (joined ws) s h, ap length e, length_base64 bs (dhcid_length bs sp.test))
     short64 c e (Text64.done h) f = c (inl (h.form, h.count))
-    short64 c e (Text64.refused h) f = omega (arith, h.form)
+    short64 c e (Text64.refused h) f = cc
 
     pub incomplete : (Complete s → ⊥) → After ws s → ⊥
     unfolding joined

@@ -5,7 +5,7 @@ use mathlib.Core.List.{List, [], ◌∷◌, ◌++◌, append_assoc, append-nil}
 use native.Mathlib.Omega.{arith}
 use native.Mathlib.Numerals.{add-one}
 use lib.ListN.{length, get_or, take, length-append}
-use lib.Seq.{append_snoc, take-suc}
+use lib.Seq.{take-suc}
 use Rattle.base.specs.Logic.{Every, Pairwise}
 use Rattle.base.proofs.Lists.{append_split, every_append}
 use Rattle.text.specs.Digits.{digit_value, value}
@@ -23,13 +23,9 @@ two_of (a ∷ b ∷ c ∷ w) x y e ex ey = absurd (omega arith)
 pub take_one : (a l : List ℕ) (i : ℕ) → i < length l → a ++ take i l ++ get_or l i 0 ∷ [] ≡ a ++ take (i + 1) l
 take_one a l i lt = append_assoc a (take i l) (get_or l i 0 ∷ []) ∙ ap (λ (t : List ℕ). a ++ t) (sym (take-suc l i 0 lt) ∙ ap (λ (k : ℕ). take k l) (sym (add-one i)))
 
-pub take_two : (a l : List ℕ) (i : ℕ) → i + 1 < length l → a ++ take i l ++ get_or l i 0 ∷ get_or l (i + 1) 0 ∷ [] ≡ a ++ take (i + 2) l
-take_two a l i lt =
-    let two : i + 1 + 1 ≡ i + 2 = omega arith in
-    sym (append_snoc (a ++ take i l) (get_or l i 0) (get_or l (i + 1) 0 ∷ []))
-    ∙ ap (λ (t : List ℕ). t ++ get_or l (i + 1) 0 ∷ []) (take_one a l i (omega arith))
-    ∙ take_one a l (i + 1) lt
-    ∙ ap (λ (k : ℕ). a ++ take k l) two
+pub nothing_left : (a l : List ℕ) → length l ≡ 0 → a ≡ a ++ l
+nothing_left a [] e = sym (append-nil a)
+nothing_left a (x ∷ l) e = absurd (omega arith)
 
 -- ---- words joined
 

@@ -8,39 +8,36 @@ ghost use Rattle.dhcid_text.specs.Base64 as base64;
 ghost use Rattle.dhcid_text.specs.Dhcid as spec;
 ghost use Rattle.dhcid_text.specs.DhcidReading as reading;
 ghost use Rattle.dhcid_text.specs.DhcidReading.{After};
+ghost use Rattle.dhcid_text.specs.declared.Form.{Form};
 ghost use Rattle.text.specs.Reading.{Decodes};
 
 use base::dhcid::is_well_formed;
 use text::digit::digit_value;
 
-// A DHCID that was read, or none: then its bytes are zero.
-#[derive(Drop)]
-pub struct ReadDhcid {
-    pub found: bool,
-    pub bytes: [u8; 35],
+// What the words that were read are.
+#[derive(Clone, Copy, PartialEq, Eq)]
+pub enum Form {
+    // no word yet
+    Nothing,
+    Base64,
+    // the generic form's marker
+    Marked,
+    // the generic form's digits
+    Digits,
+    // no DHCID, whatever follows
+    Refused,
 }
 
 // How far the reading of a DHCID's words has come: 38 bytes, by value.
 #[derive(Drop)]
 pub struct DhcidWords {
-    pub form: u8,
+    pub form: Form,
     // the characters that were read in this form
     pub count: u8,
     // the bits of base64 that wait for the rest of their byte
     pub pending: u8,
     pub bytes: [u8; 35],
 }
-
-// The forms: no word yet, base64, the generic form's marker, its digits, and no DHCID whatever follows.
-const NOTHING: u8 = 0;
-
-const BASE64: u8 = 1;
-
-const MARKED: u8 = 2;
-
-const DIGITS: u8 = 3;
-
-const REFUSED: u8 = 4;
 
 // Fills up the last group of base64.
 const PAD: u8 = b'=';
@@ -106,22 +103,20 @@ pub fn put_base64(to: &mut [u8], at: usize, dhcid: &[u8])
     requires { (length dhcid.now ≡ 35) × (at + 48 ≤ length to.old) }
     ensures { to.new ≡ overlay to.old at (spec.base64 dhcid.now) }
 {
-    let mut k: usize = 0;
-    while k < 11 {
+    for k in 0..11 {
         let c = dhcid[3 * k + 2];
         let fourth = digit64(c % 64);
         put_group(to, at + 4 * k, dhcid[3 * k], dhcid[3 * k + 1], c, fourth);
-        k += 1;
     }
     put_group(to, at + 44, dhcid[33], dhcid[34], 0, PAD);
 }
 
 // A state in which no character of its form was read.
-fn fresh(form: u8) -> DhcidWords
+fn fresh(form: Form) -> DhcidWords
     ensures { reading.Fresh form result }
 {
     DhcidWords {
-        form: form,
+        form,
         count: 0,
         pending: 0,
         bytes: [0u8; 35],
@@ -131,16 +126,16 @@ fn fresh(form: u8) -> DhcidWords
 // How far base64 has come, but for its bytes, which are written where they stand: the whole state would be copied for each character.
 #[derive(Drop)]
 struct Sextets {
-    form: u8,
+    form: Form,
     count: u8,
     pending: u8,
 }
 
 fn no_sextets() -> Sextets
-    ensures { result.form ≡ 4 }
+    ensures { result.form ≡ Form.Refused }
 {
     Sextets {
-        form: REFUSED,
+        form: Form::Refused,
         count: 0,
         pending: 0,
     }
@@ -149,7 +144,7 @@ fn no_sextets() -> Sextets
 // Takes a base64 digit of value `v`, which is not the last character: the bits that then wait for the rest of their byte.
 fn sextet(bytes: &mut [u8], count: u8, pending: u8, v: u8) -> u8
     requires { (v < 64) × (count < 47) × (length bytes.old ≡ 35) }
-    ensures { (cs : List ℕ) → reading.Begun64 cs (reading.state_of 1 count pending bytes.old) → reading.Begun64 (cs ++ spec.digit64 v ∷ []) (reading.state_of 1 (count + 1) result bytes.new) }
+    ensures { (cs : List ℕ) → reading.Begun64 cs (reading.state_of Form.Base64 count pending bytes.old) → reading.Begun64 (cs ++ spec.digit64 v ∷ []) (reading.state_of Form.Base64 (count + 1) result bytes.new) }
 {
     let at = (count / 4 * 3) as usize;
     match count % 4 {
@@ -181,7 +176,7 @@ fn last_character(s: Sextets, b: u8) -> Sextets
         return no_sextets();
     }
     Sextets {
-        form: BASE64,
+        form: Form::Base64,
         count: 48,
         pending: 0,
     }
@@ -193,7 +188,7 @@ fn base64_character(values: &[u8; 256], bytes: &mut [u8], s: Sextets, b: u8) -> 
     ensures { (cs : List ℕ) → reading.Text64 cs (reading.with_bytes s bytes.old) → reading.Text64 (cs ++ b ∷ []) (reading.with_bytes result bytes.new) }
 {
     let count = s.count;
-    if s.form != BASE64 {
+    if s.form != Form::Base64 {
         return s;
     }
     if count == 47 {
@@ -208,9 +203,9 @@ fn base64_character(values: &[u8; 256], bytes: &mut [u8], s: Sextets, b: u8) -> 
     }
     let pending = sextet(bytes, count, s.pending, v);
     Sextets {
-        form: BASE64,
+        form: Form::Base64,
         count: count + 1,
-        pending: pending,
+        pending,
     }
 }
 
@@ -224,7 +219,7 @@ fn are_digits(a: u8, b: u8, c: u8, d: u8) -> bool
 // Takes a whole group of base64, digits of the values `a` to `d`: three bytes.
 fn put_quantum(bytes: &mut [u8], count: u8, a: u8, b: u8, c: u8, d: u8)
     requires { ((a < 64) × (b < 64) × (c < 64) × (d < 64)) × (count % 4 ≡ 0) × (count < 44) × (length bytes.old ≡ 35) }
-    ensures { (cs : List ℕ) (p : ℕ) → reading.Begun64 cs (reading.state_of 1 count p bytes.old) → reading.Begun64 (cs ++ spec.digit64 a ∷ spec.digit64 b ∷ spec.digit64 c ∷ spec.digit64 d ∷ []) (reading.state_of 1 (count + 4) p bytes.new) }
+    ensures { (cs : List ℕ) (p : ℕ) → reading.Begun64 cs (reading.state_of Form.Base64 count p bytes.old) → reading.Begun64 (cs ++ spec.digit64 a ∷ spec.digit64 b ∷ spec.digit64 c ∷ spec.digit64 d ∷ []) (reading.state_of Form.Base64 (count + 4) p bytes.new) }
 {
     let at = (count / 4 * 3) as usize;
     bytes[at] = a * 4 + b / 16;
@@ -235,21 +230,20 @@ fn put_quantum(bytes: &mut [u8], count: u8, a: u8, b: u8, c: u8, d: u8)
 // Takes the whole groups of digits that a word begins with, up to the last group of 35 bytes: how many characters they are.
 fn read_quanta(values: &[u8; 256], bytes: &mut [u8], count: u8, word: &[u8]) -> u8
     requires { (values.now ≡ tabulate base64.value64 256) × (length bytes.old ≡ 35) }
-    ensures { reading.Quanta64 count word.now result × ((f p : ℕ) (cs : List ℕ) → reading.Text64 cs (reading.state_of f count p bytes.old) → reading.Text64 (cs ++ take result word.now) (reading.state_of f (count + result) p bytes.new)) }
+    ensures { reading.Quanta64 count word.now result × ((f : Form) (p : ℕ) (cs : List ℕ) → reading.Text64 cs (reading.state_of f count p bytes.old) → reading.Text64 (cs ++ take result word.now) (reading.state_of f (count + result) p bytes.new)) }
 {
     if count % 4 != 0 {
         return 0;
     }
-    let mut passed: u8 = 0;
-    while count + passed < 44 {
-        let at = passed as usize;
-        if word.len() - at < 4 {
+    let mut passed = 0;
+    for group in word.chunks_exact(4) {
+        if 44 <= count + passed {
             return passed;
         }
-        let a = value64(values, word[at]);
-        let b = value64(values, word[at + 1]);
-        let c = value64(values, word[at + 2]);
-        let d = value64(values, word[at + 3]);
+        let a = value64(values, group[0]);
+        let b = value64(values, group[1]);
+        let c = value64(values, group[2]);
+        let d = value64(values, group[3]);
         if !are_digits(a, b, c, d) {
             return passed;
         }
@@ -271,17 +265,14 @@ fn base64_word(s: DhcidWords, word: &[u8]) -> DhcidWords
         count: s.count + passed,
         pending: s.pending,
     };
-    let mut i: usize = passed as usize;
-    while i < word.len() {
-        let next = base64_character(&values, &mut bytes, sextets, word[i]);
-        sextets = next;
-        i += 1;
+    for &b in &word[passed as usize..] {
+        sextets = base64_character(&values, &mut bytes, sextets, b);
     }
     DhcidWords {
         form: sextets.form,
         count: sextets.count,
         pending: sextets.pending,
-        bytes: bytes,
+        bytes,
     }
 }
 
@@ -290,28 +281,28 @@ fn hexadecimal_byte(s: DhcidWords, high: u8, low: u8) -> DhcidWords
     ensures { (ds : List ℕ) → reading.Text16 ds s → reading.Text16 (ds ++ high ∷ low ∷ []) result }
 {
     let count = s.count;
-    if s.form != DIGITS {
+    if s.form != Form::Digits {
         return s;
     }
     let x = digit_value(high);
     let y = digit_value(low);
     if 69 < count {
-        return fresh(REFUSED);
+        return fresh(Form::Refused);
     }
     if 15 < x {
-        return fresh(REFUSED);
+        return fresh(Form::Refused);
     }
     if 15 < y {
-        return fresh(REFUSED);
+        return fresh(Form::Refused);
     }
     let mut bytes = s.bytes;
     let at = (count / 2) as usize;
     bytes[at] = x * 16 + y;
     DhcidWords {
-        form: DIGITS,
+        form: Form::Digits,
         count: count + 2,
         pending: 0,
-        bytes: bytes,
+        bytes,
     }
 }
 
@@ -321,45 +312,20 @@ fn hexadecimal_digits(s: DhcidWords, word: &[u8]) -> DhcidWords
     ensures { (ds : List ℕ) → reading.Text16 ds s → reading.Text16 (ds ++ word.now) result }
 {
     let mut state = s;
-    let mut i: usize = 0;
-    while i < word.len() {
-        let next = hexadecimal_byte(state, word[i], word[i + 1]);
-        state = next;
-        i += 2;
+    for pair in word.chunks_exact(2) {
+        state = hexadecimal_byte(state, pair[0], pair[1]);
     }
     state
 }
 
-// Whether a word is these two characters.
-fn is_pair(word: &[u8], first: u8, second: u8) -> bool
-    ensures { Decides result (word.now ≡ first ∷ second ∷ []) }
-{
-    if word.len() != 2 {
-        return false;
-    }
-    if word[0] != first {
-        return false;
-    }
-    word[1] == second
-}
-
 // Whether as many characters of a form were read as 35 bytes have.
-fn is_complete(form: u8, count: u8) -> bool
-    ensures { Decides result (((form ≡ 1) × (count ≡ 48)) ⊎ ((form ≡ 3) × (count ≡ 70))) }
+fn is_complete(form: Form, count: u8) -> bool
+    ensures { Decides result (((form ≡ Form.Base64) × (count ≡ 48)) ⊎ ((form ≡ Form.Digits) × (count ≡ 70))) }
 {
     match form {
-        BASE64 => count == 48,
-        DIGITS => count == 70,
+        Form::Base64 => count == 48,
+        Form::Digits => count == 70,
         _ => false,
-    }
-}
-
-fn no_dhcid() -> ReadDhcid
-    ensures { result ≡ reading.no_dhcid }
-{
-    ReadDhcid {
-        found: false,
-        bytes: [0u8; 35],
     }
 }
 
@@ -367,29 +333,29 @@ fn no_dhcid() -> ReadDhcid
 fn first_word(word: &[u8]) -> DhcidWords
     ensures { After (word.now ∷ []) result }
 {
-    if is_pair(word, b'\\', b'#') {
-        return fresh(MARKED);
+    if word == b"\\#".as_slice() {
+        return fresh(Form::Marked);
     }
-    base64_word(fresh(BASE64), word)
+    base64_word(fresh(Form::Base64), word)
 }
 
 // The state after the word that follows the marker, and must be 35: as many bytes follow.
 fn length_word(word: &[u8]) -> DhcidWords
     ensures { After (spec.marker ∷ word.now ∷ []) result }
 {
-    if is_pair(word, b'3', b'5') {
-        return fresh(DIGITS);
+    if word == b"35".as_slice() {
+        return fresh(Form::Digits);
     }
-    fresh(REFUSED)
+    fresh(Form::Refused)
 }
 
 // The state after one word more of hexadecimal digits, which must be whole bytes.
 fn hexadecimal_word(s: DhcidWords, word: &[u8]) -> DhcidWords
-    requires { s.form ≡ 3 }
+    requires { s.form ≡ Form.Digits }
     ensures { (ws : List (List ℕ)) → After ws s → After (ws ++ word.now ∷ []) result }
 {
     if word.len() % 2 != 0 {
-        return fresh(REFUSED);
+        return fresh(Form::Refused);
     }
     hexadecimal_digits(s, word)
 }
@@ -399,37 +365,33 @@ impl DhcidWords {
     pub fn begin() -> Self
         ensures { After [] result }
     {
-        fresh(NOTHING)
+        fresh(Form::Nothing)
     }
 
     // The state after one word more.
     pub fn word(self, word: &[u8]) -> Self
         ensures { (ws : List (List ℕ)) → After ws self → After (ws ++ word.now ∷ []) result }
     {
-        let form = self.form;
-        match form {
-            NOTHING => first_word(word),
-            BASE64 => base64_word(self, word),
-            MARKED => length_word(word),
-            DIGITS => hexadecimal_word(self, word),
-            _ => self,
+        match self.form {
+            Form::Nothing => first_word(word),
+            Form::Base64 => base64_word(self, word),
+            Form::Marked => length_word(word),
+            Form::Digits => hexadecimal_word(self, word),
+            Form::Refused => self,
         }
     }
 
     // The DHCID that the words spell, if they spell one.
-    pub fn finish(self) -> ReadDhcid
-        ensures { (ws : List (List ℕ)) → After ws self → Decodes (spec.SpellsDhcid ws) result.found result.bytes }
+    pub fn finish(self) -> Option<[u8; 35]>
+        ensures { (ws : List (List ℕ)) → After ws self → Decodes (spec.SpellsDhcid ws) result }
     {
         let bytes = self.bytes;
         if !is_complete(self.form, self.count) {
-            return no_dhcid();
+            return None;
         }
         if !is_well_formed(&bytes) {
-            return no_dhcid();
+            return None;
         }
-        ReadDhcid {
-            found: true,
-            bytes: bytes,
-        }
+        Some(bytes)
     }
 }

@@ -24,26 +24,20 @@ use Rattle.grammar.specs.DhcidReader.{dhcid_of}
 use Rattle.grammar.proofs.DhcidReaderLaws.{dhcid_reads}
 use Rattle.grammar.specs.Content.{only_word}
 use Rattle.words.specs.NextIs.{depth_of, WordAt}
-use Rattle.entry.specs.Parts.{words_at, address_for, rdata_for, HeldData, if_none, DataAt}
-use Rattle.entry.specs.declared.«data».Data.{Data}
+use Rattle.entry.specs.Parts.{filled_out, Data, data_of, words_at, address_for, rdata_for, HeldData, if_none, DataAt}
+use Rattle.std.specs.Prelude.{Option as Maybe, Some, None, is_some, unwrap_or}
 use Rattle.entry.proofs.NextLaws.{word_words, word_ends}
 
 -- ---- what was read, as `Data` holds it
 
--- zeros, filled up with zeros, are all zeros
-zeros : (k : ℕ) → k ≤ 35 → zero_filled (replicate k 0) ≡ zero_filled []
-unfolding zero_filled
-zeros k h =
-    ap (λ (n : ℕ). replicate k 0 ++ replicate (35 - n) 0) (length-replicate {A = ℕ} k 0) ∙ replicate-append-replicate {A = ℕ} k (35 - k) 0
-    ∙ ap (λ (n : ℕ). replicate {A = ℕ} n 0) (add-sub_of_le h)
-
 module _ {A : Type 0} {f : A → Option (List ℕ)} {R : A → List ℕ → Type 0} (reads : Reads f R) (a : A) (at : ℕ) (d : Bool) where
-  pub held_by : (found : Bool) (bytes filled : List ℕ) → length bytes ≤ 35 → filled ≡ zero_filled bytes → Decodes (R a) found bytes
-      → HeldData (f a) (record { found = found; bytes = filled; at = at; inside = d })
-  held_by found bytes filled short e (Decodes.yes_read is s) =
-      subst (λ (v : Option (List ℕ)). HeldData v (record { found = found; bytes = filled; at = at; inside = d })) (sym (reads.finds a bytes s)) (is, e)
-  held_by found bytes filled short e (Decodes.none_read not never z) =
-      subst (λ (v : Option (List ℕ)). HeldData v (record { found = found; bytes = filled; at = at; inside = d })) (sym (none_found reads a never)) (not, e ∙ ap zero_filled z ∙ zeros (length bytes) short)
+  pub held_by : (read filled : Maybe (List ℕ)) → filled ≡ filled_out read → Decodes (R a) read → HeldData (f a) (data_of (record { rdata = filled; at = at; inside = d }))
+  held_by read filled e (Decodes.yes_read {bytes} s) =
+      subst (λ (v : Option (List ℕ)). HeldData v (data_of (record { rdata = filled; at = at; inside = d }))) (sym (reads.finds a bytes s))
+      (ap (λ (o : Maybe (List ℕ)). is_some o) e, ap (λ (o : Maybe (List ℕ)). unwrap_or o (zero_filled [])) e)
+  held_by read filled e (Decodes.none_read never) =
+      subst (λ (v : Option (List ℕ)). HeldData v (data_of (record { rdata = filled; at = at; inside = d }))) (sym (none_found reads a never))
+      (ap (λ (o : Maybe (List ℕ)). is_some o) e, ap (λ (o : Maybe (List ℕ)). unwrap_or o (zero_filled [])) e)
 
 -- ---- an address is the next word
 
@@ -52,7 +46,7 @@ only_first f w [] = refl
 only_first f w (v ∷ ws) = refl
 
 module _ (t : List ℕ) (at : ℕ) (d : Bool) (k : ℕ) where
-  pub no_address : at ≤ length t → words_at t at d ≡ [] → DataAt (address_for k) t at d (record { found = false; bytes = zero_filled []; at = at; inside = d })
+  pub no_address : at ≤ length t → words_at t at d ≡ [] → DataAt (address_for k) t at d (data_of (record { rdata = None; at = at; inside = d }))
   no_address fits empty =
       record { from = omega arith; within = fits; ends = refl; value = none; is = (refl, refl); found = ap (address_for k) empty ∙ go (eqb k 1) ∙ sym (ap (λ (ws : List (List ℕ)). if_none ws none) empty) }
     where
@@ -60,29 +54,29 @@ module _ (t : List ℕ) (at : ℕ) (d : Bool) (k : ℕ) where
       go true = refl
       go false = refl
 
-  module _ {start end : ℕ} {d' : Bool} (w : WordAt t at d start end d') (found : Bool) (bytes filled : List ℕ) (e : filled ≡ zero_filled bytes) where
+  module _ {start end : ℕ} {d' : Bool} (w : WordAt t at d start end d') (read filled : Maybe (List ℕ)) (e : filled ≡ filled_out read) where
     abbrev word : List ℕ
     word = take (end - start) (drop start t)
 
-    pub an_a : k ≡ 1 → length bytes ≡ 4 → Decodes (SpellsA word) found bytes → DataAt (address_for k) t at d (record { found = found; bytes = filled; at = end; inside = d' })
-    an_a one four r =
+    pub an_a : k ≡ 1 → Decodes (SpellsA word) read → DataAt (address_for k) t at d (data_of (record { rdata = filled; at = end; inside = d' }))
+    an_a one r =
         record {
           from = omega (arith, w.from, w.some);
           within = w.within;
           ends = word_ends t at d w;
           value = a_of word;
-          is = held_by a_reads word end d' found bytes filled (omega arith) e r;
+          is = held_by a_reads word end d' read filled e r;
           found = ap (address_for k) (word_words t at d w) ∙ ap (λ (b : Bool). cond b (only_word a_of (word ∷ words_at t end d')) (only_word aaaa_of (word ∷ words_at t end d'))) (eq-eqb k 1 one) ∙ only_first a_of word (words_at t end d');
         }
 
-    pub an_aaaa : (k ≡ 1 → ⊥) → length bytes ≡ 16 → Decodes (SpellsAAAA word) found bytes → DataAt (address_for k) t at d (record { found = found; bytes = filled; at = end; inside = d' })
-    an_aaaa other sixteen r =
+    pub an_aaaa : (k ≡ 1 → ⊥) → Decodes (SpellsAAAA word) read → DataAt (address_for k) t at d (data_of (record { rdata = filled; at = end; inside = d' }))
+    an_aaaa other r =
         record {
           from = omega (arith, w.from, w.some);
           within = w.within;
           ends = word_ends t at d w;
           value = aaaa_of word;
-          is = held_by aaaa_reads word end d' found bytes filled (omega arith) e r;
+          is = held_by aaaa_reads word end d' read filled e r;
           found = ap (address_for k) (word_words t at d w) ∙ ap (λ (b : Bool). cond b (only_word a_of (word ∷ words_at t end d')) (only_word aaaa_of (word ∷ words_at t end d'))) (ne_eqb k 1 other) ∙ only_first aaaa_of word (words_at t end d');
         }
 
@@ -116,16 +110,16 @@ module _ (t : List ℕ) (at : ℕ) (d : Bool) where
               ∙ sym (append_assoc h.before (take (end - start) (drop start t) ∷ []) (words_at t end d''));
         }
 
-    pub all_read : words_at t i d' ≡ [] → (found : Bool) (bytes : List ℕ) → length bytes ≡ 35 → ((ws : List (List ℕ)) → After ws s → Decodes (SpellsDhcid ws) found bytes)
-        → DataAt dhcid_of t at d (record { found = found; bytes = bytes; at = i; inside = d' })
-    all_read empty found bytes long says =
+    pub all_read : words_at t i d' ≡ [] → (read filled : Maybe (List ℕ)) → filled ≡ filled_out read → ((ws : List (List ℕ)) → After ws s → Decodes (SpellsDhcid ws) read)
+        → DataAt dhcid_of t at d (data_of (record { rdata = filled; at = i; inside = d' }))
+    all_read empty read filled e says =
         let words : words_at t at d ≡ h.before = h.all ∙ ap (λ (ws : List (List ℕ)). h.before ++ ws) empty ∙ append-nil h.before in
         record {
           from = h.from;
           within = h.fits;
           ends = h.ends;
           value = dhcid_of h.before;
-          is = held_by dhcid_reads h.before i d' found bytes bytes (omega arith) (sym (all_stored bytes long)) (says h.before h.state);
+          is = held_by dhcid_reads h.before i d' read filled e (says h.before h.state);
           found = ap dhcid_of words ∙ sym (ap (λ (ws : List (List ℕ)). if_none ws (dhcid_of h.before)) empty);
         }
 

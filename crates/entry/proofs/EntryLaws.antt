@@ -13,6 +13,7 @@ use Rattle.base.specs.Refusal.{entry_shape, entry_owner, entry_type}
 use Rattle.name.specs.Name.{canonical}
 use Rattle.name.specs.Promise.{Reads, ReadsNone}
 use Rattle.name.specs.declared.WireName.{WireName}
+use Rattle.std.specs.Prelude.{Option as Maybe, Some, None}
 use Rattle.name.proofs.NameLaws.{length_canonical}
 use Rattle.name.proofs.WireLaws.{proper_some}
 use Rattle.grammar.specs.Listing.{is_word_byte, begins, outside, RecordType}
@@ -75,23 +76,21 @@ module _ (t : List ℕ) (at : ℕ) where
 pub first_byte : (t : List ℕ) (at : ℕ) → at < length t → begins is_word_byte (drop at t) ≡ is_word_byte (get_or t at 0)
 first_byte t at h = ap (begins is_word_byte) (drop-cons t at 0 h)
 
-module _ (w : List ℕ) (r : WireName) (h : Reads w r ⊎ ReadsNone w r) where
-  wire_some : (x : Reads w r) → 1 ≤ length x.wire
-  wire_some x = proper_some x.wire (record { labels = x.spells.labels; name = x.spells.name; form = x.spells.form })
+module _ (w : List ℕ) (r : Maybe WireName) (h : Reads w r ⊎ ReadsNone w r) where
+  pub owner_none : r ≡ None → owner_of w ≡ none
+  owner_none e = ⊎_elim (λ x. let never : ⊥ = cc (x.is, e) in absurd never) (λ x. none_found owner_reads w (λ n o. x.none o.wire o.spells)) h
 
-  pub owner_none : r.len ≡ 0 → owner_of w ≡ none
-  owner_none e = ⊎_elim (λ x. absurd (omega (arith, wire_some x, x.len))) (λ x. none_found owner_reads w (λ n o. x.none o.wire o.spells)) h
-
-  pub owner_some : (r.len ≡ 0 → ⊥) → (n : List ℕ) × (owner_of w ≡ some n) × (r.bytes ≡ padded n) × (r.len ≡ length n)
-  owner_some e =
+  pub owner_some : (name : WireName) → r ≡ Some name → (n : List ℕ) × (owner_of w ≡ some n) × (name.bytes ≡ padded n) × (name.len ≡ length n)
+  owner_some name e =
       ⊎_elim
-      (λ x. (
+      (λ x.
+      let same : name ≡ record { bytes = padded (canonical x.wire); len = length x.wire } = cc (x.is, e) in (
         canonical x.wire,
         owner_reads.finds w (canonical x.wire) (record { wire = x.wire; spells = x.spells; form = refl }),
-        x.bytes,
-        x.len ∙ sym (length_canonical x.wire),
+        ap (λ (n : WireName). n.bytes) same,
+        ap (λ (n : WireName). n.len) same ∙ sym (length_canonical x.wire),
       ))
-      (λ x. absurd (e x.len)) h
+      (λ x. let never : ⊥ = cc (x.is, e) in absurd never) h
 
 -- ---- what words come to
 

@@ -19,7 +19,7 @@ use Rattle.entry.specs.EntryAt.{record_before, fault_before, entry_at, faulty_fr
 use Rattle.entry.specs.declared.Record.{Record}
 use Rattle.entry.specs.declared.Content.TheVariants
 use Rattle.entry.specs.declared.head.Head.{Head}
-use Rattle.entry.specs.declared.«data».Data.{Data}
+use Rattle.entry.specs.Parts.{Data}
 use Rattle.entry.proofs.NextLaws.{word_words, word_ends}
 use Rattle.entry.proofs.EntryLaws.{ends, content, by_parts, to_line, word_fault, no_owner, not_first, no_head, with_head, by_number, nothing_found}
 

@@ -1,6 +1,6 @@
 -- What the functions that read the head and the data of an entry promise, in the terms of grammar's functions (grammar, specs/Content.antt), which are
 -- proved to find what its definitions say.
-use Rattle.std.specs.Prelude.{ℕ, ◌≤◌, Bool, true, false, cond, ◌≡◌, List, [], ◌∷◌, eqb, length, drop}
+use Rattle.std.specs.Prelude.{ℕ, ◌≤◌, Bool, true, false, cond, ◌≡◌, List, [], ◌∷◌, eqb, length, drop, Option as Maybe, Some, None, is_some, unwrap_or}
 use Rattle.std.proofs.Math.Option.{Option, none, some}
 use Rattle.base.specs.Bytes.{zero_filled}
 use Rattle.grammar.specs.Listing.{RecordType}
@@ -11,7 +11,7 @@ use Rattle.grammar.specs.Content.{Headed, with_rest, only_word}
 use Rattle.words.specs.NextIs.{depth_of}
 use Rattle.entry.specs.Held.{type_number}
 use Rattle.entry.specs.declared.head.Head.{Head}
-use Rattle.entry.specs.declared.«data».Data.{Data}
+use Rattle.entry.specs.declared.«data».Data.{Data as Read}
 
 -- 0 where there is no type
 abbrev pub type_number_if : Option RecordType → ℕ
@@ -38,6 +38,22 @@ address_for n ws = cond (eqb n 1) (only_word a_of ws) (only_word aaaa_of ws)
 
 abbrev pub rdata_for : ℕ → List (List ℕ) → Option (List ℕ)
 rdata_for n ws = cond (eqb n 49) (dhcid_of ws) (address_for n ws)
+
+-- the bytes of data with zeros after them, if there are data
+abbrev pub filled_out : Maybe (List ℕ) → Maybe (List ℕ)
+filled_out None = None
+filled_out (Some bs) = Some (zero_filled bs)
+
+-- data that were read, or none, and then their bytes are zero; and how far the entry was read
+pub record Data : Type 0 where
+  pub found : Bool
+  pub bytes : List ℕ
+  pub at : ℕ
+  pub inside : Bool
+
+-- those that the code holds
+abbrev pub data_of : Read → Data
+data_of r = record { found = is_some r.rdata; bytes = unwrap_or r.rdata (zero_filled []); at = r.at; inside = r.inside }
 
 -- data that may have been found, as `Data` holds them
 abbrev pub HeldData : Option (List ℕ) → Data → Type 0

@@ -10,11 +10,10 @@ use base::slice::put;
 use dhcid_text::DhcidWords;
 use words::{Next, next_word};
 
-// Data that were read, or none, and then their bytes are zero; and how far the entry was read.
+// Data that were read, if they were, with zeros after them; and how far the entry was read.
 #[derive(Drop)]
 pub(crate) struct Data {
-    pub found: bool,
-    pub bytes: [u8; 35],
+    pub rdata: Option<[u8; 35]>,
     pub at: usize,
     pub inside: bool,
 }
@@ -29,10 +28,21 @@ fn zero_filled(bytes: &[u8]) -> [u8; 35]
     filled
 }
 
+// Data of N bytes, if they were read, with zeros after them.
+fn filled<const N: usize>(bytes: Option<[u8; N]>) -> Option<[u8; 35]>
+    requires { N ≤ 35 }
+    ensures { result ≡ spec.filled_out bytes.entry }
+{
+    match bytes {
+        Some(bytes) => Some(zero_filled(&bytes)),
+        None => None,
+    }
+}
+
 // An address, which is the next word: an A record's, or else an AAAA record's.
 fn address(text: &[u8], at: usize, inside: bool, rtype: u8) -> Data
     requires { at ≤ length text.now }
-    ensures { spec.DataAt (spec.address_for rtype) text.now at inside result }
+    ensures { spec.DataAt (spec.address_for rtype) text.now at inside (spec.data_of result) }
 {
     match next_word(text, at, inside) {
         Next::Word {
@@ -42,27 +52,22 @@ fn address(text: &[u8], at: usize, inside: bool, rtype: u8) -> Data
         } => {
             let word = &text[start..end];
             if rtype == TYPE_A {
-                let a = read_a(word);
                 return Data {
-                    found: a.found,
-                    bytes: zero_filled(&a.bytes),
+                    rdata: filled(read_a(word)),
                     at: end,
                     inside: after,
                 };
             }
-            let a = read_aaaa(word);
             Data {
-                found: a.found,
-                bytes: zero_filled(&a.bytes),
+                rdata: filled(read_aaaa(word)),
                 at: end,
                 inside: after,
             }
         }
         _ => Data {
-            found: false,
-            bytes: [0u8; 35],
-            at: at,
-            inside: inside,
+            rdata: None,
+            at,
+            inside,
         },
     }
 }
@@ -70,7 +75,7 @@ fn address(text: &[u8], at: usize, inside: bool, rtype: u8) -> Data
 // A DHCID, in all the words that are left.
 fn dhcid(text: &[u8], at: usize, inside: bool) -> Data
     requires { at ≤ length text.now }
-    ensures { spec.DataAt dhcid_of text.now at inside result }
+    ensures { spec.DataAt dhcid_of text.now at inside (spec.data_of result) }
 {
     let mut words = DhcidWords::begin();
     let mut i = at;
@@ -88,11 +93,8 @@ fn dhcid(text: &[u8], at: usize, inside: bool) -> Data
                 within = after;
             }
             _ => {
-                let read = words.finish();
-                let bytes = read.bytes;
                 return Data {
-                    found: read.found,
-                    bytes: bytes,
+                    rdata: filled(words.finish()),
                     at: i,
                     inside: within,
                 };
@@ -104,7 +106,7 @@ fn dhcid(text: &[u8], at: usize, inside: bool) -> Data
 // The data of a record of the type `rtype`, whose words begin at `at`.
 pub(crate) fn read(text: &[u8], at: usize, inside: bool, rtype: u8) -> Data
     requires { at ≤ length text.now }
-    ensures { spec.DataAt (spec.rdata_for rtype) text.now at inside result }
+    ensures { spec.DataAt (spec.rdata_for rtype) text.now at inside (spec.data_of result) }
 {
     if rtype == TYPE_DHCID {
         return dhcid(text, at, inside);

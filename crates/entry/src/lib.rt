@@ -123,10 +123,9 @@ fn with_words(text: &[u8], at: usize, start: usize, end: usize, inside: bool) ->
     requires { WordAt text.now at false start end inside }
     ensures { result ≡ spec.entry_at text.now at }
 {
-    let owner = from_text(&text[start..end]);
-    if owner.len == 0 {
+    let Some(owner) = from_text(&text[start..end]) else {
         return faulty(text, end, inside, ENTRY_OWNER);
-    }
+    };
     if !is_word_byte(text[at]) {
         return faulty(text, end, inside, ENTRY_OWNER);
     }
@@ -135,16 +134,15 @@ fn with_words(text: &[u8], at: usize, start: usize, end: usize, inside: bool) ->
         return faulty(text, head.at, head.inside, ENTRY_TYPE);
     }
     let data = data::read(text, head.at, head.inside, head.rtype);
-    if !data.found {
+    let Some(rdata) = data.rdata else {
         return faulty(text, data.at, data.inside, ENTRY_DATA);
-    }
+    };
     let bytes = owner.bytes;
-    let rdata = data.bytes;
     let record = Record {
         owner: bytes,
         owner_len: owner.len,
         rtype: head.rtype,
-        rdata: rdata,
+        rdata,
     };
     match next_word(text, data.at, data.inside) {
         Next::Word {

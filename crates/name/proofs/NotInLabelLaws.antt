@@ -7,7 +7,7 @@ use native.Mathlib.Numerals.{add-one}
 use native.Mathlib.Omega.{arith}
 use lib.Dec.{leb, eqb}
 use lib.ListN.{length, get_or, take, drop, length-drop, take-append-drop, drop_of_length-le}
-use lib.Seq.{drop-cons, drop-drop, take-suc, take_all}
+use lib.Seq.{drop-cons, drop-drop}
 use borrow.Author.Tests.{eq-eqb, ne_eqb, le-leb, lt-leb, eqb-true, leb-true}
 use Rattle.base.specs.Logic.{Decides}
 use Rattle.base.proofs.Tests.{and_left, and_right, under, over}
@@ -48,26 +48,6 @@ pub count_length : (l : List ℕ) → count_not_in_label l ≤ length l
 unfolding count_not_in_label
 count_length [] = omega arith
 count_length (b ∷ l) = omega (arith, count_length l, not_in_label_one b)
-
--- the first i bytes are counted
-pub record Counted (n : List ℕ) (found i : ℕ) : Type 0 where
-  pub low : i ≤ length n
-  pub all : found ≡ count_not_in_label (take i n)
-  pub few : found ≤ i
-
-pub counted_none : (n : List ℕ) → Counted n 0 0
-unfolding count_not_in_label
-counted_none n = record { low = omega arith; all = refl; few = omega arith }
-
-pub counted_more : (n : List ℕ) (found i x : ℕ) → Counted n found i → i < length n → x ≡ not_in_label (get_or n i 0) → Counted n (found + x) (i + 1)
-unfolding count_not_in_label
-counted_more n found i x h within e =
-    let cut : take (i + 1) n ≡ take i n ++ (get_or n i 0 ∷ []) = rw (add-one, take-suc n i 0) in
-    let sum : count_not_in_label (take (i + 1) n) ≡ count_not_in_label (take i n) + (not_in_label (get_or n i 0) + 0) = ap count_not_in_label cut ∙ count_append (take i n) (get_or n i 0 ∷ []) in
-    record { low = omega arith; all = omega (arith, h.all); few = omega (arith, h.few, not_in_label_one (get_or n i 0)) }
-
-pub counted_all : (n : List ℕ) (found i : ℕ) → Counted n found i → length n ≤ i → found ≡ count_not_in_label n
-counted_all n found i h all = h.all ∙ ap count_not_in_label (take_all i n all)
 
 -- ---- a byte of a label that is canonical
 
@@ -170,9 +150,6 @@ pub record Hopped (n : List ℕ) (left i : ℕ) : Type 0 where
   pub sum : left ≡ passed + count_not_in_label (drop i n)
   pub clean : passed ≡ 0 → held 0 n ≡ held 0 (drop i n)
   pub dirty : 1 ≤ passed → held 0 n ≡ false
-
-pub hopped_none : (n : List ℕ) → Hopped n (count_not_in_label n) 0
-hopped_none n = record { passed = 0; sum = omega arith; clean = λ z. refl; dirty = λ o. absurd (omega arith) }
 
 pub by_none : {P : Type 0} (k : ℕ) → (k ≡ 0 → P) → (1 ≤ k → P) → P
 by_none zero f g = f refl

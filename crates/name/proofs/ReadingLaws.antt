@@ -2,7 +2,7 @@
 use Prim.Native.Nat.{ℕ, suc, ◌+◌, ◌-◌, ◌≤◌, ◌<◌}
 use mathlib.Core.Bool.{Bool, true, false, ◌&&◌, ◌||◌, and-false, true≢false, false≢true}
 use mathlib.Core.Path.{◌≡◌, refl, sym, ap, ap₂, subst, ◌∙◌}
-use mathlib.Core.Logic.{◌⊎◌, inr}
+use mathlib.Core.Logic.{◌⊎◌, inl, inr}
 use mathlib.Core.List.{List, [], ◌∷◌, ◌++◌, append_assoc}
 use native.Mathlib.Nat.{add-zero}
 use native.Mathlib.Omega.{arith}
@@ -10,6 +10,7 @@ use lib.Dec.{leb, eqb}
 use lib.ListN.{length, get_or, take, drop, set, replicate, length-drop, length-append, drop_of_length-le}
 use lib.Seq.{drop-cons, set_at, drop_at, drop-drop, take_at}
 use borrow.Author.Tests.{ne_eqb, le-leb, lt-leb, leb-true}
+use Rattle.std.specs.Prelude.{Some, None}
 use Rattle.base.specs.Bytes.{ascii, overlay, padded}
 use Rattle.base.specs.Logic.{Every}
 use Rattle.base.proofs.Bytes.{drop_replicate, take_replicate}
@@ -17,7 +18,7 @@ use Rattle.base.proofs.Lists.{map_append}
 use Rattle.base.proofs.Tests.{and_left, and_right}
 use Rattle.name.specs.Label.{Label, is_upper, is_lower, is_digit, is_label_byte, lower}
 use Rattle.name.specs.Name.{wire, text, SpellsName, canonical}
-use Rattle.name.specs.Promise.{Reads, ReadsNone, no_name}
+use Rattle.name.specs.Promise.{Reads, ReadsNone}
 use Rattle.name.specs.NotInLabel.{is_canonical_label_byte, not_in_label, count_not_in_label}
 use Rattle.name.specs.declared.WireName.{WireName}
 use Rattle.name.proofs.LabelLaws.{lower_length, lower_lower, lower_other, label_byte_lower, by_case}
@@ -33,9 +34,8 @@ valid_some [] e = absurd (false≢true (unfold valid in e))
 valid_some (b ∷ w) e = omega arith
 
 module _ (w : List ℕ) where
-  pub refused : (r : WireName) → r ≡ no_name → ((n : List ℕ) → SpellsName w n → ⊥) → Reads w r ⊎ ReadsNone w r
-  unfolding no_name
-  refused r e none = inr (record { none = none; bytes = ap (λ (x : WireName). x.bytes) e; len = ap (λ (x : WireName). x.len) e })
+  pub refused : ((n : List ℕ) → SpellsName w n → ⊥) → Reads w None ⊎ ReadsNone w None
+  refused none = inr (record { none = none; is = refl })
 
   length_word : (n : List ℕ) → SpellsName w n → length w + 1 ≡ length n
   length_word n s = ap (λ (l : List ℕ). length l + 1) s.word ∙ length_text s.labels ∙ sym (ap length s.form)
@@ -257,7 +257,7 @@ module _ (w bytes : List ℕ) (left i : ℕ) (h : Reading w bytes left i) (all :
   unfolding valid
   reads_valid none = h.clean (sym over ∙ none) ∙ ap (λ (l : List ℕ). valid (46 ∷ l)) none_ahead
 
-  pub reading_all : left ≡ 0 → 1 ≤ length w → length w ≤ 254 → Reads w (record { bytes = set bytes (length w) 0; len = length w + 1 })
+  pub reading_all : left ≡ 0 → 1 ≤ length w → length w ≤ 254 → Reads w (Some (record { bytes = set bytes (length w) 0; len = length w + 1 }))
   unfolding padded canonical lead shifted
   reading_all none some fits =
       let both = sym (valid_dot 46 w (some_left w 0 some) refl) ∙ reads_valid none in
@@ -271,15 +271,15 @@ module _ (w bytes : List ℕ) (left i : ℕ) (h : Reading w bytes left i) (all :
       ap (λ (l : List ℕ). lead l ∷ shifted l) r.form ∙ text_shifted r.label r.labels first r.are ∙ sym (canonical_wire ls are) in
       let zeros : 254 - length w ≡ 255 - length (canonical (wire ls)) = omega (arith, size, length_canonical (wire ls)) in
       let ends : length h.head ≡ length w = omega (arith, h.long, h.within) in
+      let bytes_are : set bytes (length w) 0 ≡ canonical (wire ls) ++ replicate (255 - length (canonical (wire ls))) 0 =
+      ap (λ (d : List ℕ). set d (length w) 0) (h.done ∙ ap (λ (l : List ℕ). h.head ++ h.old ∷ (canonical l ++ replicate (254 - length w) 0)) none_ahead)
+      ∙ set_at h.head h.old (replicate (254 - length w) 0) 0 (length w) ends
+      ∙ sym (append_assoc h.head (0 ∷ []) (replicate (254 - length w) 0))
+      ∙ ap₂ (λ (l : List ℕ) (k : ℕ). l ++ replicate k 0) (sym (h.form ∙ ap (λ (l : List ℕ). h.head ++ lead l ∷ shifted l) none_ahead) ∙ form) zeros in
       record {
         wire = wire ls;
         spells = record { labels = ls; name = record { some = omega arith; labels = are; short = omega (arith, fits) }; word = r.form; form = refl };
-        bytes =
-            ap (λ (d : List ℕ). set d (length w) 0) (h.done ∙ ap (λ (l : List ℕ). h.head ++ h.old ∷ (canonical l ++ replicate (254 - length w) 0)) none_ahead)
-            ∙ set_at h.head h.old (replicate (254 - length w) 0) 0 (length w) ends
-            ∙ sym (append_assoc h.head (0 ∷ []) (replicate (254 - length w) 0))
-            ∙ ap₂ (λ (l : List ℕ) (k : ℕ). l ++ replicate k 0) (sym (h.form ∙ ap (λ (l : List ℕ). h.head ++ lead l ∷ shifted l) none_ahead) ∙ form) zeros;
-        len = size;
+        is = λ j. Some (record { bytes = bytes_are j; len = size j });
       }
 
 pub no_last_dot : (w n : List ℕ) (i : ℕ) → SpellsName w n → i + 1 ≡ length w → (get_or w i 0 ≡ 46 → ⊥) → ⊥
@@ -287,3 +287,16 @@ unfolding valid
 no_last_dot w n i s last dot =
     let alone : drop i w ≡ get_or w i 0 ∷ [] = drop-cons w i 0 (omega arith) ∙ ap (λ (l : List ℕ). get_or w i 0 ∷ l) (drop_of_length-le w {i = suc i} (omega arith)) in
     true≢false (sym (valid_on w i (omega arith) (word_valid w n s).0) ∙ ap valid alone ∙ ne_eqb (get_or w i 0) 46 dot)
+
+-- ---- what was read
+
+-- a name: what the word spells, in canonical form
+pub read_name : (w : List ℕ) (x : WireName) → Reads w (Some x) ⊎ ReadsNone w (Some x) → (n : List ℕ) × SpellsName w n × (x.bytes ≡ padded (canonical n)) × (x.len ≡ length n)
+read_name w x (inl h) =
+    let is : x ≡ record { bytes = padded (canonical h.wire); len = length h.wire } = cc (h.is) in
+    (h.wire, h.spells, ap (λ (y : WireName). y.bytes) is, ap (λ (y : WireName). y.len) is)
+read_name w x (inr h) = absurd (cc (h.is))
+
+pub read_none : (w : List ℕ) → Reads w None ⊎ ReadsNone w None → (n : List ℕ) → SpellsName w n → ⊥
+read_none w (inl h) = absurd (cc (h.is))
+read_none w (inr h) = h.none

@@ -84,16 +84,6 @@ pub record Walked (n z : List ℕ) (at : ℕ) : Type 0 where
   pub forth : Within n z → Within (wire rest) z
   pub back : Within (wire rest) z → Within n z
 
-pub walked_none : (n z : List ℕ) → Proper n → Walked n z 0
-walked_none n z p =
-    record {
-      rest = p.labels;
-      low = omega arith;
-      form = p.form;
-      forth = subst (λ (c : List ℕ). Within c z) p.form;
-      back = subst (λ (c : List ℕ). Within c z) (sym p.form);
-    }
-
 -- the next label, where more bytes are left than the zone has
 pub record Turn (n z : List ℕ) (at : ℕ) : Type 0 where
   pub short : at + (get_or n at 0 + 1) ≤ length n

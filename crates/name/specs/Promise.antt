@@ -1,21 +1,19 @@
 -- What the functions that read and write names promise beyond the definitions of Name.antt.
-use Rattle.std.specs.Prelude.{ℕ, zero, suc, cond, ◌≡◌, List, [], ◌∷◌, ◌++◌, eqb, length}
+use Rattle.std.specs.Prelude.{ℕ, zero, suc, cond, ◌≡◌, List, [], ◌∷◌, ◌++◌, Option, Some, None, eqb, length}
 use Rattle.base.specs.Bytes.{ascii, padded}
 use Rattle.name.specs.Name.{SpellsName, canonical}
 use Rattle.name.specs.declared.WireName.{WireName}
 
 -- the word w was a proper name in text, and r is its canonical wire form
-pub record Reads (w : List ℕ) (r : WireName) : Type 0 where
+pub record Reads (w : List ℕ) (r : Option WireName) : Type 0 where
   pub wire : List ℕ
   pub spells : SpellsName w wire
-  pub bytes : r.bytes ≡ padded (canonical wire)
-  pub len : r.len ≡ length wire
+  pub is : r ≡ Some (record { bytes = padded (canonical wire); len = length wire })
 
--- w is no proper name in text, and r says so by the length 0
-pub record ReadsNone (w : List ℕ) (r : WireName) : Type 0 where
+-- w is no proper name in text, and r is none
+pub record ReadsNone (w : List ℕ) (r : Option WireName) : Type 0 where
   pub none : (n : List ℕ) → SpellsName w n → ⊥
-  pub bytes : r.bytes ≡ padded []
-  pub len : r.len ≡ 0
+  pub is : r ≡ None
 
 -- the length of the label that stands first in text: so many bytes come before the first dot (46)
 unfoldable pub lead : List ℕ → ℕ
@@ -32,7 +30,3 @@ dotted (suc left) (b ∷ n) = b ∷ dotted left n
 unfoldable pub text_of : List ℕ → List ℕ
 text_of [] = []
 text_of (b ∷ n) = dotted b n
-
--- the answer that says that there is no name
-unfoldable pub no_name : WireName
-no_name = record { bytes = padded []; len = 0 }

@@ -21,10 +21,7 @@ pub(crate) fn is_label_byte(b: u8) -> bool
 pub fn lower(b: u8) -> u8
     ensures { result ≡ spec.lower b }
 {
-    match b {
-        b'A'..=b'Z' => b + 32,
-        _ => b,
-    }
+    b.to_ascii_lowercase()
 }
 
 // 1 for a byte that no label in canonical form has, or else 0: by comparisons, which are made of many bytes at once.

@@ -5,11 +5,20 @@
 pub mod byte;
 pub mod wire;
 
+ghost use Rattle.std.specs.Prelude.{◌≡◌, take};
+
 // A name in canonical wire form, by value: 256 bytes.
 #[derive(Drop)]
 pub struct WireName {
     // the name, and zeros after it
     pub bytes: [u8; 255],
-    // its length; 0 where there is no name
     pub len: u8,
+}
+
+impl WireName {
+    pub fn as_slice(&self) -> &[u8]
+        ensures { result.now ≡ take self.now.len self.now.bytes }
+    {
+        &self.bytes[..self.len as usize]
+    }
 }

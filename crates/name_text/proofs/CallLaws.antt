@@ -1,23 +1,25 @@
 -- What the two calls answer, from what reading, testing and writing a name promise. Assumes nothing.
-use Prim.Native.Nat.{ℕ, ◌+◌, ◌-◌, ◌≤◌, ◌<◌}
-use mathlib.Core.Path.{◌≡◌, refl, sym, ap, ◌∙◌}
-use mathlib.Core.Logic.{◌⊎◌, inl, inr}
-use mathlib.Core.List.{List, ◌++◌}
+use Prim.Native.Nat.{ℕ, ◌-◌, ◌≤◌, ◌<◌}
+use mathlib.Core.Path.{◌≡◌, sym, ap, ap₂, ◌∙◌}
+use Rattle.std.specs.Prelude.{Some}
+use mathlib.Core.Logic.{◌⊎◌}
+use mathlib.Core.List.{List}
 use native.Mathlib.Nat.{zero-add}
 use native.Mathlib.Omega.{arith}
-use lib.ListN.{length, take, replicate, length-append}
+use lib.ListN.{length, take, replicate}
 use lib.Seq.{take_at, length-take-le}
 use Rattle.base.specs.Bytes.{overlay, padded}
-use Rattle.base.specs.Refusal.{no_proper_name, output_short}
+use Rattle.base.specs.Refusal.{output_short}
 use Rattle.base.specs.declared.Answer.{Answer}
 use Rattle.base.specs.declared.Answer.TheVariants.{Accepted, Refused}
 use Rattle.base.proofs.Bytes.{take_overlay, length_overlay}
 use Rattle.name.specs.Name.{Proper, SpellsName, canonical}
 use Rattle.name.specs.Promise.{Reads, ReadsNone, text_of}
+use Rattle.name.proofs.ReadingLaws.{read_name}
 use Rattle.name.specs.declared.WireName.{WireName}
 use Rattle.name.proofs.DottedLaws.{length_text_of}
 use Rattle.name.proofs.NameLaws.{length_canonical}
-use Rattle.name.proofs.Theorems.{canonical_form, spelled, spelled_proper}
+use Rattle.name.proofs.Theorems.{canonical_form, spelled}
 use Rattle.name.proofs.WireLaws.{proper_some, proper_short}
 use Rattle.name_text.specs.Calls.{ReadsText, WritesText}
 
@@ -28,31 +30,22 @@ unpadded : (n : List ℕ) → take (length n) (padded (canonical n)) ≡ canonic
 unfolding padded
 unpadded n = take_at (canonical n) (replicate (255 - length (canonical n)) 0) (length n) (length_canonical n)
 
--- the name stands within its 255 bytes
-pub read_within : (w : List ℕ) (name : WireName) → Reads w name ⊎ ReadsNone w name → name.len ≤ length name.bytes
-unfolding padded
-read_within w name (inl h) =
-    omega
-    (arith, h.len, ap length h.bytes, length-append (canonical h.wire) (replicate (255 - length (canonical h.wire)) 0), length_canonical h.wire)
-read_within w name (inr h) = omega (arith, h.len)
+module _ (w out : List ℕ) (name : WireName) (h : Reads w (Some name) ⊎ ReadsNone w (Some name)) (bytes : List ℕ) (e : bytes ≡ take name.len name.bytes) where
+  held : (n : List ℕ) × SpellsName w n × (bytes ≡ canonical n)
+  held =
+      let x = read_name w name h in
+      (x.0, x.1, e ∙ ap₂ (λ (k : ℕ) (l : List ℕ). take k l) x.3 x.2 ∙ unpadded x.0)
 
-module _ (w out : List ℕ) (name : WireName) (r : Answer) (left : List ℕ) where
-  pub read_none : Reads w name ⊎ ReadsNone w name → name.len ≡ 0 → r ≡ Refused no_proper_name 0 → left ≡ out → ReadsText w out r left
-  read_none (inl h) z a e = absurd (omega (arith, h.len, proper_some h.wire (spelled_proper w h.wire h.spells)))
-  read_none (inr h) z a e = ReadsText.no_name h.none a e
+  size : length bytes ≡ length held.0
+  size = ap length held.2 ∙ length_canonical held.0
 
-  module _ (some : name.len ≡ 0 → ⊥) where
-    pub read_short : Reads w name ⊎ ReadsNone w name → length out < name.len → r ≡ Refused output_short 0 → left ≡ out → ReadsText w out r left
-    read_short (inl h) small a e = ReadsText.short h.spells (omega (arith, h.len)) a e
-    read_short (inr h) small a e = absurd (some h.len)
+  module _ (r : Answer) (left : List ℕ) where
+    pub read_short : length out < length bytes → r ≡ Refused output_short 0 → left ≡ out → ReadsText w out r left
+    read_short small a l = ReadsText.short held.1 (omega (arith, size)) a l
 
-    pub read_whole : Reads w name ⊎ ReadsNone w name → name.len ≤ length out → r ≡ Accepted name.len → left ≡ overlay out 0 (take name.len name.bytes)
-        → ReadsText w out r left
-    read_whole (inl h) room a e =
-        let whole : take name.len name.bytes ≡ canonical h.wire =
-        ap (λ (k : ℕ). take k name.bytes) h.len ∙ ap (take (length h.wire)) h.bytes ∙ unpadded h.wire in
-        ReadsText.read h.spells (omega (arith, h.len)) (a ∙ ap Accepted h.len) (e ∙ ap (overlay out 0) whole)
-    read_whole (inr h) room a e = absurd (some h.len)
+    pub read_whole : length bytes ≤ length out → r ≡ Accepted (length bytes) → left ≡ overlay out 0 bytes → ReadsText w out r left
+    read_whole room a l =
+        ReadsText.read held.1 (omega (arith, size)) (a ∙ ap Accepted size) (l ∙ ap (overlay out 0) held.2)
 
 -- ---- a name written
 

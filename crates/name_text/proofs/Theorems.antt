@@ -1,6 +1,6 @@
 -- The public theorems of `name_text`: each promise determines the answer and what is left, a refused call leaves the output as it was, and what was written is read again as the same name. Assumes nothing.
 use Prim.Native.Nat.{ℕ, ◌≤◌}
-use mathlib.Core.Path.{◌≡◌, refl, sym, ap, ◌∙◌}
+use mathlib.Core.Path.{◌≡◌, sym, ap, ◌∙◌}
 use mathlib.Core.List.{List}
 use native.Mathlib.Nat.{zero-add}
 use native.Mathlib.Omega.{arith}
@@ -11,7 +11,7 @@ use Rattle.base.specs.declared.Answer.{Answer}
 use Rattle.base.specs.declared.Answer.TheVariants.{Accepted, Refused}
 use Rattle.base.proofs.AnswerLaws.{accepted≢refused}
 use Rattle.base.proofs.Bytes.{take_overlay}
-use Rattle.name.specs.Name.{SpellsName, canonical}
+use Rattle.name.specs.Name.{canonical}
 use Rattle.name.proofs.NameLaws.{length_canonical, canonical_again}
 use Rattle.name.proofs.Theorems.{one_name, one_text}
 use Rattle.name_text.specs.Calls.{ReadsText, WritesText}

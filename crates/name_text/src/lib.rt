@@ -18,15 +18,6 @@ const LONGEST_TEXT: usize = 254;
 
 const DOT: u8 = 46;
 
-fn no_name() -> WireName
-    ensures { result ≡ spec.no_name }
-{
-    WireName {
-        bytes: [0u8; 255],
-        len: 0,
-    }
-}
-
 // From so many bytes on it pays to look at a chunk first.
 const FAR: usize = 64;
 
@@ -71,20 +62,20 @@ fn next_dot(word: &[u8], at: usize) -> usize
     i
 }
 
-// The name that a word of text is, in canonical wire form; or none, with length 0. All bytes are taken over, one further on, and each length then stands
-// where in text the dot before the label does; the bytes are right if every one that no label has is a dot.
-pub fn from_text(word: &[u8]) -> WireName
+// The name that a word of text is, in canonical wire form; or none. All bytes are taken over, one further on, and each length then stands where in
+// text the dot before the label does; the bytes are right if every one that no label has is a dot.
+pub fn from_text(word: &[u8]) -> Option<WireName>
     ensures { spec.Reads word.now result ⊎ spec.ReadsNone word.now result }
 {
     let n = word.len();
     if n == 0 {
-        return no_name();
+        return None;
     }
     if LONGEST_TEXT < n {
-        return no_name();
+        return None;
     }
     if word[n - 1] != DOT {
-        return no_name();
+        return None;
     }
     let mut bytes = [0u8; 255];
     put_canonical(&mut bytes, 1, word);
@@ -95,24 +86,24 @@ pub fn from_text(word: &[u8]) -> WireName
         let end = next_dot(word, i);
         let size = (end - i) as u8;
         if size == 0 {
-            return no_name();
+            return None;
         }
         if LONGEST_LABEL < size {
-            return no_name();
+            return None;
         }
         bytes[i] = size;
         left -= 1;
         i = end + 1;
     }
     if left != 0 {
-        return no_name();
+        return None;
     }
     // in the place of the last dot
     bytes[n] = 0;
-    WireName {
-        bytes: bytes,
+    Some(WireName {
+        bytes,
         len: (n + 1) as u8,
-    }
+    })
 }
 
 // Writes the text of a name into `to`, from index `at` on: one byte less than the name has. All its bytes but the first, and then a dot in the place of
@@ -137,17 +128,15 @@ pub fn put_text(to: &mut [u8], at: usize, name: &[u8])
 pub fn read(text: &[u8], out: &mut [u8]) -> Answer
     ensures { calls.ReadsText text.now out.old result out.new }
 {
-    let name = from_text(text);
-    let len = name.len as usize;
-    if len == 0 {
+    let Some(name) = from_text(text) else {
         return Answer::refused(NO_PROPER_NAME);
-    }
-    if out.len() < len {
+    };
+    let bytes = name.as_slice();
+    if out.len() < bytes.len() {
         return Answer::refused(OUTPUT_SHORT);
     }
-    let bytes: &[u8] = &name.bytes;
-    put(out, 0, &bytes[..len]);
-    Answer::Accepted(len as u32)
+    put(out, 0, bytes);
+    Answer::Accepted(bytes.len() as u32)
 }
 
 // Writes a name in wire form into `out`, as text in lower case, and answers how many bytes that has. Refusals: 9, 13.

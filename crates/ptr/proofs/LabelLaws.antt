@@ -1,16 +1,18 @@
 -- The name of an address, from its last byte on: the labels of each byte, and then the name of the bytes before it. Assumes nothing.
-use Prim.Native.Nat.{ℕ, ◌+◌, ◌*◌, ◌/◌, ◌%◌, ◌≤◌}
+use Prim.Native.Nat.{ℕ, ◌+◌, ◌-◌, ◌*◌, ◌/◌, ◌%◌, ◌≤◌, ◌<◌}
 use mathlib.Core.Path.{◌≡◌, refl, sym, ap, ◌∙◌}
 use mathlib.Core.List.{List, [], ◌∷◌, ◌++◌, map, reverse, append_assoc, append-nil, reverse-cons, reverse-append}
 use native.Mathlib.Omega.{arith}
-use lib.ListN.{length, length-append, length-reverse}
+use native.Mathlib.Numerals.{add-one}
+use lib.ListN.{length, get_or, take, replicate, length-append, length-reverse}
+use lib.Seq.{take-suc}
 use Rattle.base.specs.Bytes.{ascii}
 use Rattle.base.proofs.Lists.{map_append}
 use Rattle.name.specs.Name.{wire}
 use Rattle.slots.specs.declared.Family.{Family}
 use Rattle.slots.specs.declared.Family.TheVariants.{V4, V6}
 use Rattle.text.specs.Digits.{decimal, hex_digit}
-use Rattle.text.proofs.DigitLaws.{length_decimal}
+use Rattle.text.proofs.DigitLaws.{length_decimal, digits_first}
 use Rattle.ptr.specs.Ptr.{nibbles, ptr_labels, ptr_name}
 
 -- ---- the labels of bytes
@@ -83,6 +85,13 @@ pub lasts_octet : (b : ℕ) → lasts V4 (b ∷ []) ≡ length (decimal 3 b) ∷
 unfolding lasts labels_of front
 lasts_octet b = ap (λ (l : List ℕ). length (decimal 3 b) ∷ l) (append-nil (decimal 3 b))
 
+-- that label, as it is written from what `decimal` answers
+pub octet_label : (b len : ℕ) (ds : List ℕ) → (ds ≡ decimal 3 b ++ replicate (3 - len) 0) × (len ≡ length (decimal 3 b))
+    → (length (take len ds) ∷ take len ds ≡ lasts V4 (b ∷ [])) × (length (take len ds) ≡ len)
+octet_label b len ds h =
+    let first : take len ds ≡ decimal 3 b = digits_first 3 b len ds _ h in
+    (ap (λ (q : List ℕ). length q ∷ q) first ∙ sym (lasts_octet b), ap length first ∙ sym h.1)
+
 pub lasts_nibbles : (b : ℕ) → lasts V6 (b ∷ []) ≡ 1 ∷ hex_digit (b % 16) ∷ 1 ∷ hex_digit (b / 16) ∷ []
 unfolding lasts labels_of nibbles front
 lasts_nibbles b = refl
@@ -92,6 +101,13 @@ lasts_nibbles b = refl
 pub length_suffix_4 : length (ptr_name V4 []) ≡ 14
 unfolding ptr_name ptr_labels wire ascii
 length_suffix_4 = refl
+
+-- one byte more of an IPv4 address is one label more
+pub octet_more : (x : List ℕ) (i : ℕ) → i < length x → length (ptr_name V4 (take (i + 1) x)) ≡ length (ptr_name V4 (take i x)) + (1 + length (decimal 3 (get_or x i 0)))
+octet_more x i lt =
+    let b = get_or x i 0 in
+    let next : take (i + 1) x ≡ take i x ++ (b ∷ []) = rw (add-one, take-suc x i 0) in
+    omega (arith, ap length (ap (ptr_name V4) next ∙ name_on V4 (take i x) (b ∷ [])), length-append (lasts V4 (b ∷ [])) (ptr_name V4 (take i x)), ap length (lasts_octet b))
 
 length_suffix_6 : length (ptr_name V6 []) ≡ 10
 unfolding ptr_name ptr_labels nibbles wire ascii

@@ -13,7 +13,7 @@ use base::refusal::{ADDRESS_LENGTH, OUTPUT_SHORT, UNKNOWN_SETTING};
 use base::slice::put;
 use slot::{address_size, family_of, is_family};
 use slots::Family;
-use text::digit::{decimal, hex_digit};
+use text::digit::{DecimalByte, decimal, hex_digit};
 
 // How many bytes the labels in-addr and arpa have, and the zero byte that ends a name.
 const IN_ADDR_ARPA: usize = 14;
@@ -27,10 +27,8 @@ fn in_addr_length(address: &[u8]) -> usize
     ensures { result ≡ length (spec.ptr_name V4 address.now) }
 {
     let mut n = IN_ADDR_ARPA;
-    let mut i = address.len();
-    while 0 < i {
-        i -= 1;
-        n += 1 + decimal(address[i]).len;
+    for b in address {
+        n += 1 + decimal(*b).len;
     }
     n
 }
@@ -62,14 +60,10 @@ fn put_in_addr(out: &mut [u8], address: &[u8])
     ensures { out.new ≡ overlay out.old 0 (spec.ptr_name V4 address.now) }
 {
     let mut end: usize = 0;
-    let mut i = address.len();
-    while 0 < i {
-        i -= 1;
-        let d = decimal(address[i]);
-        let digits = d.digits;
-        let n = d.len;
-        put_label(out, end, &digits[..n]);
-        end += 1 + n;
+    for octet in address.iter().rev() {
+        let DecimalByte { digits, len } = decimal(*octet);
+        put_label(out, end, &digits[..len]);
+        end += 1 + len;
     }
     put(out, end, b"\x07in-addr\x04arpa\x00");
 }
@@ -91,10 +85,8 @@ fn put_ip6(out: &mut [u8], address: &[u8])
     ensures { out.new ≡ overlay out.old 0 (spec.ptr_name V6 address.now) }
 {
     let mut end: usize = 0;
-    let mut i = address.len();
-    while 0 < i {
-        i -= 1;
-        put_nibbles(out, end, address[i]);
+    for b in address.iter().rev() {
+        put_nibbles(out, end, *b);
         end += 4;
     }
     put(out, end, b"\x03ip6\x04arpa\x00");

@@ -17,12 +17,9 @@ fn print(line: Line) {
 
 fn text(word: &[u8]) {
     let line = Line::begin().text(word).text(b": ");
-    let read = from_text(word);
-    let bytes = read.bytes;
-    if read.len == 0 {
-        print(line.text(b"no name\n"));
-    } else {
-        print(line.hex(first(&bytes, read.len as usize)).text(b"\n"));
+    match from_text(word) {
+        Some(name) => print(line.hex(name.as_slice()).text(b"\n")),
+        None => print(line.text(b"no name\n")),
     }
 }
 
@@ -62,11 +59,11 @@ fn four_labels(label: &[u8], last: u8)
 // Is the name in text `a` the same as the one in text `b`?
 fn compare(a: &[u8], b: &[u8]) {
     let line = Line::begin().text(a).text(b" and ").text(b);
-    let x = from_text(a);
-    let y = from_text(b);
-    let xs = x.bytes;
-    let ys = y.bytes;
-    if matches(first(&xs, x.len as usize), first(&ys, y.len as usize)) {
+    let same = match (from_text(a), from_text(b)) {
+        (Some(x), Some(y)) => matches(x.as_slice(), y.as_slice()),
+        _ => false,
+    };
+    if same {
         print(line.text(b": the same\n"));
     } else {
         print(line.text(b": not the same\n"));

@@ -7,8 +7,8 @@
 #![tactic(auto)]
 
 use address::{a_length, put_a, put_aaaa, read_a, read_aaaa};
-use dhcid_text::{DhcidWords, ReadDhcid, put_base64};
-use harness::{Line, STDOUT, find, first};
+use dhcid_text::{DhcidWords, put_base64};
+use harness::{Line, STDOUT, first};
 
 fn print(line: Line) {
     let bytes = line.bytes;
@@ -37,50 +37,42 @@ fn print_a(line: Line, bytes: &[u8; 4]) {
 
 fn a(word: &[u8]) {
     let line = Line::begin().text(b"A ").text(word);
-    let read = read_a(word);
-    let bytes = read.bytes;
-    if read.found {
-        print_a(line, &bytes);
-    } else {
-        print(line.text(b": no address\n"));
+    match read_a(word) {
+        Some(bytes) => print_a(line, &bytes),
+        None => print(line.text(b": no address\n")),
     }
 }
 
 fn aaaa(word: &[u8]) {
     let line = Line::begin().text(b"AAAA ").text(word);
-    let read = read_aaaa(word);
-    let bytes = read.bytes;
-    if read.found {
-        let mut written = [0u8; 39];
-        put_aaaa(&mut written, 0, &bytes);
-        print_read(line, &bytes, &written);
-    } else {
-        print(line.text(b": no address\n"));
+    match read_aaaa(word) {
+        Some(bytes) => {
+            let mut written = [0u8; 39];
+            put_aaaa(&mut written, 0, &bytes);
+            print_read(line, &bytes, &written);
+        }
+        None => print(line.text(b": no address\n")),
     }
 }
 
 // The words are parted by single blanks.
-fn read_words(words: &[u8]) -> ReadDhcid {
+fn read_words(words: &[u8]) -> Option<[u8; 35]> {
     let mut state = DhcidWords::begin();
-    let mut at: usize = 0;
-    while at < words.len() {
-        let end = find(words, at, b' ');
-        state = state.word(&words[at..end]);
-        at = end + 1;
+    for word in words.split(|b| *b == b' ') {
+        state = state.word(word);
     }
     state.finish()
 }
 
 fn dhcid(words: &[u8]) {
     let line = Line::begin().text(b"DHCID ").text(words);
-    let read = read_words(words);
-    let bytes = read.bytes;
-    if read.found {
-        let mut written = [0u8; 48];
-        put_base64(&mut written, 0, &bytes);
-        print_read(line, &bytes, &written);
-    } else {
-        print(line.text(b": no DHCID\n"));
+    match read_words(words) {
+        Some(bytes) => {
+            let mut written = [0u8; 48];
+            put_base64(&mut written, 0, &bytes);
+            print_read(line, &bytes, &written);
+        }
+        None => print(line.text(b": no DHCID\n")),
     }
 }
 

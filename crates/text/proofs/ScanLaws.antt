@@ -1,6 +1,5 @@
 -- The loop that reads numbers with a separator, over FieldLaws.antt. Assumes nothing.
-use Prim.Native.Nat.{ℕ, suc, ◌+◌, ◌-◌, ◌*◌, ◌≤◌, ◌<◌}
-use mathlib.Core.Bool.{true, false, true≢false}
+use Prim.Native.Nat.{ℕ, suc, ◌+◌, ◌-◌, ◌≤◌, ◌<◌}
 use mathlib.Core.Path.{◌≡◌, refl, sym, ap, subst, ◌∙◌}
 use mathlib.Core.Logic.{◌⊎◌, inr, ⊎_elim}
 use mathlib.Core.List.{List, [], ◌∷◌, ◌++◌, append_assoc}
@@ -9,10 +8,10 @@ use native.Mathlib.Omega.{arith}
 use lib.ListN.{length, get_or, take, drop, set, replicate, length-set, length-append, drop_of_length-le}
 use lib.Seq.{drop-cons, length-take-le, take-suc-set, drop-set-lt, set_split}
 use Rattle.base.proofs.Lists.{drop_next}
+use Rattle.std.specs.Prelude.{Some, None}
 use Rattle.text.specs.Digits.{digit_value}
-use Rattle.text.specs.Field.{Fields, Usable, Allowed, Numbered, NotNumbered}
+use Rattle.text.specs.Field.{Fields, Usable, Extended, may, may_not, Numbered, NotNumbered}
 use Rattle.text.specs.declared.field.Form.{Form}
-use Rattle.text.specs.declared.field.Numbers.{Numbers}
 use Rattle.text.proofs.FieldLaws.{From, last, next, digit, fields_from, from_is_fields, from_some, at_separator, at_digit, at_end}
 
 -- at index i of w, k numbers stand in values, zeros after them, and the next is v so far, with n digits: what w goes on to is those and what is left of it
@@ -27,21 +26,8 @@ pub record Scanning (f : Form) (w values : List ℕ) (k v n i : ℕ) : Type 0 wh
   pub back : (ms : List ℕ) → From f v n (drop i w) ms → From f 0 0 w (take k values ++ ms)
 
 module _ (f : Form) (usable : Usable f) (w : List ℕ) where
-  pub refused : (r : Numbers) → (r.found ≡ false) × (r.values ≡ replicate 8 0) → ((ns : List ℕ) → Fields f w ns → ⊥) → Numbered f w r ⊎ NotNumbered f w r
-  refused r e none = inr (record { none = none; found = e.0; values = e.1 })
-
-  pub scanning_none : Scanning f w (replicate 8 0) 0 0 0 0
-  scanning_none =
-      record {
-        within = omega arith;
-        long = refl;
-        few = omega (arith, usable.some);
-        small = omega arith;
-        digits = omega arith;
-        zeros = refl;
-        forth = λ ns h. (ns, refl, h);
-        back = λ ms h. h;
-      }
+  pub refused : ((ns : List ℕ) → Fields f w ns → ⊥) → Numbered f w None ⊎ NotNumbered f w None
+  refused none = inr (record { none = none; found = refl })
 
   module _ (values : List ℕ) (k v n i : ℕ) (h : Scanning f w values k v n i) where
     -- the numbers of the whole word are as many as it wants only if few enough are left
@@ -64,22 +50,18 @@ module _ (f : Form) (usable : Usable f) (w : List ℕ) where
           let t = h.forth ns (fields_from f usable w ns g) in
           (t.0, counted ns t.0 t.1, from_here t.0 t.2)
 
-      pub no_digits : get_or w i 0 ≡ f.separator → n ≡ 0 → (ns : List ℕ) → Fields f w ns → ⊥
-      no_digits e none ns g = let t = here ns g in omega (arith, (at_separator f usable e t.2).0)
-
-      pub too_many : get_or w i 0 ≡ f.separator → f.count - 1 ≤ k → (ns : List ℕ) → Fields f w ns → ⊥
-      too_many e full ns g =
+      pub no_next : get_or w i 0 ≡ f.separator → (1 ≤ n → f.count - 1 ≤ k) → (ns : List ℕ) → Fields f w ns → ⊥
+      no_next e full ns g =
           let t = here ns g in
-          let s = (at_separator f usable e t.2).1 in
-          omega (arith, g.count, t.1, ap length s.1, from_some f usable s.2, usable.some)
+          let s = at_separator f usable e t.2 in
+          omega (arith, full s.0, g.count, t.1, ap length s.1.1, from_some f usable s.1.2, usable.some)
 
-      pub no_digit : (get_or w i 0 ≡ f.separator → ⊥) → (Allowed f v n (digit_value (get_or w i 0)) → ⊥) → (ns : List ℕ) → Fields f w ns → ⊥
-      no_digit ne not ns g = let t = here ns g in not (at_digit f usable ne t.2).0
+      pub no_digit : (get_or w i 0 ≡ f.separator → ⊥) → Extended f v n (digit_value (get_or w i 0)) None → (ns : List ℕ) → Fields f w ns → ⊥
+      no_digit ne (may_not never) ns g = never (at_digit f usable ne (here ns g).2).0
 
-      pub scanning_next : get_or w i 0 ≡ f.separator → (n ≡ 0 → ⊥) → k < f.count - 1 → Scanning f w (set values k v) (k + 1) 0 0 (i + 1)
-      scanning_next e some room =
+      pub scanning_next : get_or w i 0 ≡ f.separator → 1 ≤ n → k < f.count - 1 → Scanning f w (set values k v) (k + 1) 0 0 (i + 1)
+      scanning_next e one room =
           let inside : k < length values = omega (arith, h.long, usable.few) in
-          let one : 1 ≤ n = omega (arith, some) in
           let front : take (k + 1) (set values k v) ≡ take k values ++ (v ∷ []) = rw add-one (take-suc-set values k v inside) in
           let joins : (ms : List ℕ) → take (k + 1) (set values k v) ++ ms ≡ take k values ++ v ∷ ms =
           λ ms. ap (λ (l : List ℕ). l ++ ms) front ∙ append_assoc (take k values) (v ∷ []) ms in
@@ -103,9 +85,8 @@ module _ (f : Form) (usable : Usable f) (w : List ℕ) where
                 subst (From f 0 0 w) (sym (joins ms)) (h.back (v ∷ ms) (to_here (v ∷ ms) (next e one g)));
           }
 
-      pub scanning_digit : (r : ℕ) → (get_or w i 0 ≡ f.separator → ⊥) → Allowed f v n (digit_value (get_or w i 0)) → r ≡ v * f.base + digit_value (get_or w i 0)
-          → Scanning f w values k r (n + 1) (i + 1)
-      scanning_digit r ne a e =
+      pub scanning_digit : {r : ℕ} → (get_or w i 0 ≡ f.separator → ⊥) → Extended f v n (digit_value (get_or w i 0)) (Some r) → Scanning f w values k r (n + 1) (i + 1)
+      scanning_digit ne (may a) =
           record {
             within = omega arith;
             long = h.long;
@@ -116,10 +97,8 @@ module _ (f : Form) (usable : Usable f) (w : List ℕ) where
             forth =
                 λ ns g.
                 let t = h.forth ns g in
-                (t.0, t.1, subst (λ (x : ℕ). From f x (n + 1) (drop (i + 1) w) t.0) (sym e) (at_digit f usable ne (from_here t.0 t.2)).1);
-            back =
-                λ ms g.
-                h.back ms (to_here ms (digit ne a (subst (λ (x : ℕ). From f x (n + 1) (drop (i + 1) w) ms) e g)));
+                (t.0, t.1, (at_digit f usable ne (from_here t.0 t.2)).1);
+            back = λ ms g. h.back ms (to_here ms (digit ne a g));
           }
 
     module _ (end : length w ≤ i) where
@@ -132,16 +111,12 @@ module _ (f : Form) (usable : Usable f) (w : List ℕ) where
           let s = at_end f usable (subst (λ (l : List ℕ). From f v n l t.0) none_left t.2) in
           (s.0, counted ns t.0 t.1 ∙ ap (λ (j : ℕ). k + j) (ap length s.1))
 
-      pub ends_empty : n ≡ 0 → (ns : List ℕ) → Fields f w ns → ⊥
-      ends_empty none ns g = omega (arith, (at_last ns g).0)
+      pub no_end : (1 ≤ n → k ≡ f.count - 1 → ⊥) → (ns : List ℕ) → Fields f w ns → ⊥
+      no_end few ns g = let l = at_last ns g in few l.0 (omega (arith, l.1, g.count))
 
-      pub ends_few : (k ≡ f.count - 1 → ⊥) → (ns : List ℕ) → Fields f w ns → ⊥
-      ends_few not ns g = not (omega (arith, (at_last ns g).1, g.count))
-
-      pub scanning_all : (n ≡ 0 → ⊥) → k ≡ f.count - 1 → Numbered f w (record { found = true; values = set values k v })
-      scanning_all some full =
+      pub scanning_all : 1 ≤ n → k ≡ f.count - 1 → Numbered f w (Some (set values k v))
+      scanning_all one full =
           let ns : List ℕ = take k values ++ (v ∷ []) in
-          let one : 1 ≤ n = omega (arith, some) in
           let count : length ns ≡ k + 1 = counted ns (v ∷ []) refl in
           let all : From f 0 0 w ns = h.back (v ∷ []) (subst (λ (l : List ℕ). From f v n l (v ∷ [])) (sym none_left) (last one)) in
           let inside : k < length values = omega (arith, h.long, h.few, usable.few) in
@@ -149,19 +124,19 @@ module _ (f : Form) (usable : Usable f) (w : List ℕ) where
           record {
             numbers = ns;
             fields = from_is_fields f usable w ns all (omega (arith, h.few));
-            found = refl;
-            values =
-                set_split values k v inside
+            found =
+                ap Some
+                (set_split values k v inside
                 ∙ ap (λ (l : List ℕ). take k values ++ v ∷ l)
                 (ap (λ (j : ℕ). drop j values) (sym (add-one k)) ∙ drop_next values k 0 (replicate (8 - length ns) 0) (h.zeros ∙ ap (λ (j : ℕ). replicate j 0) rest))
-                ∙ sym (append_assoc (take k values) (v ∷ []) (replicate (8 - length ns) 0));
+                ∙ sym (append_assoc (take k values) (v ∷ []) (replicate (8 - length ns) 0)));
           }
 
 -- ---- what the reader answered
 
-module _ (f : Form) (w : List ℕ) (r : Numbers) (answer : Numbered f w r ⊎ NotNumbered f w r) where
-  pub was_found : r.found ≡ true → Numbered f w r
-  was_found e = ⊎_elim (λ y. y) (λ n. absurd (true≢false (sym e ∙ n.found))) answer
+module _ {f : Form} {w : List ℕ} where
+  pub were_read : {vs : List ℕ} → Numbered f w (Some vs) ⊎ NotNumbered f w (Some vs) → (ns : List ℕ) × Fields f w ns × (vs ≡ ns ++ replicate (8 - length ns) 0)
+  were_read answer = ⊎_elim (λ y. (y.numbers, y.fields, cc y.found)) (λ n. cc n.found) answer
 
-  pub not_found : r.found ≡ false → (ns : List ℕ) → Fields f w ns → ⊥
-  not_found e = ⊎_elim (λ y. absurd (true≢false (sym y.found ∙ e))) (λ n. n.none) answer
+  pub none_were_read : Numbered f w None ⊎ NotNumbered f w None → (ns : List ℕ) → Fields f w ns → ⊥
+  none_were_read answer = ⊎_elim (λ y. cc y.found) (λ n. n.none) answer

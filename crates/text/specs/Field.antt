@@ -1,10 +1,9 @@
 -- Numbers with a separator between them: what A and AAAA records have in common, so that one function reads both.
-use Rattle.std.specs.Prelude.{ℕ, ◌+◌, ◌-◌, ◌*◌, ◌≤◌, ◌<◌, Bool, false, ◌≡◌, List, ◌++◌, length, get_or, replicate}
+use Rattle.std.specs.Prelude.{ℕ, ◌+◌, ◌-◌, ◌*◌, ◌≤◌, ◌<◌, false, ◌≡◌, List, ◌++◌, length, get_or, replicate, Option, Some, None}
 use Prim.Native.Char.{code}
 use Rattle.base.specs.Logic.{Pairwise}
 use Rattle.text.specs.Digits.{digit_value, Number, separated}
 use Rattle.text.specs.declared.field.Form.{Form}
-use Rattle.text.specs.declared.field.Numbers.{Numbers}
 
 -- p is a number n of the form f: in its base, of at most so many digits, no greater than it allows, and with no leading zero where it has none
 pub record Field (f : Form) (p : List ℕ) (n : ℕ) : Type 0 where
@@ -37,20 +36,17 @@ pub record Allowed (f : Form) (v n d : ℕ) : Type 0 where
   pub leading : f.leading_zeros ≡ false → 1 ≤ n → 1 ≤ v
   pub small : v * f.base + d ≤ f.greatest
 
--- r is the number with that digit; or 65,536, which is no number of a field, where it may not have it
-pub record Extended (f : Form) (v n d r : ℕ) : Type 0 where
-  pub may : (r ≡ 65536 → ⊥) → Allowed f v n d
-  pub is : (r ≡ 65536 → ⊥) → r ≡ v * f.base + d
-  pub not : r ≡ 65536 → Allowed f v n d → ⊥
+-- the number with that digit; or none, where it may not have it
+pub data Extended (f : Form) (v n d : ℕ) : Option ℕ → Type 0 where
+  may : Allowed f v n d → Extended f v n d (Some (v * f.base + d))
+  may_not : (Allowed f v n d → ⊥) → Extended f v n d None
 
--- what the reader answers: the numbers, and zeros after them; or that there are none, and zeros
-pub record Numbered (f : Form) (w : List ℕ) (r : Numbers) : Type 0 where
+-- what the reader answers: the numbers, and zeros after them; or that there are none
+pub record Numbered (f : Form) (w : List ℕ) (r : Option (List ℕ)) : Type 0 where
   pub numbers : List ℕ
   pub fields : Fields f w numbers
-  pub found : r.found ≡ Bool.true
-  pub values : r.values ≡ numbers ++ replicate (8 - length numbers) 0
+  pub found : r ≡ Some (numbers ++ replicate (8 - length numbers) 0)
 
-pub record NotNumbered (f : Form) (w : List ℕ) (r : Numbers) : Type 0 where
+pub record NotNumbered (f : Form) (w : List ℕ) (r : Option (List ℕ)) : Type 0 where
   pub none : (ns : List ℕ) → Fields f w ns → ⊥
-  pub found : r.found ≡ false
-  pub values : r.values ≡ replicate 8 0
+  pub found : r ≡ None

@@ -1,8 +1,9 @@
 // Digits of numbers.
-ghost use Rattle.std.specs.Prelude.{◌≡◌, ◌-◌, ◌<◌, ◌++◌, length, replicate};
+ghost use Rattle.std.specs.Prelude.{◌≡◌, ◌-◌, ◌<◌, ◌≤◌, ◌++◌, length, replicate};
 ghost use Rattle.text.specs.Digits as spec;
 
 // The value of a decimal or hexadecimal digit, in either case; 16 for any other byte.
+#[tactic(auto, unfolding(crate::specs::Digits::digit_value))]
 pub fn digit_value(b: u8) -> u8
     ensures { result ≡ spec.digit_value b }
 {
@@ -15,6 +16,7 @@ pub fn digit_value(b: u8) -> u8
 }
 
 // The hexadecimal digit of a number below 16, in lower case.
+#[tactic(auto, unfolding(crate::specs::Digits::hex_digit))]
 pub fn hex_digit(v: u8) -> u8
     requires { v < 16 }
     ensures { result ≡ spec.hex_digit v }
@@ -27,8 +29,10 @@ pub fn hex_digit(v: u8) -> u8
 pub struct DecimalByte {
     pub digits: [u8; 3],
     pub len: usize,
+    ghost few: { len ≤ 3 },
 }
 
+#[tactic(auto, unfolding(crate::specs::Digits::decimal))]
 pub fn decimal(n: u8) -> DecimalByte
     ensures { (result.digits ≡ spec.decimal 3 n ++ replicate (3 - result.len) 0) × (result.len ≡ length (spec.decimal 3 n)) }
 {

@@ -1,176 +1,134 @@
--- The longest run at an index of a text, for loops that go over it. Assumes nothing.
-use Prim.Native.Nat.{ℕ, ◌+◌, ◌-◌, ◌≤◌, ◌<◌}
+-- The longest run at an index of a text, by its length. Assumes nothing.
+use Prim.Native.Nat.{ℕ, min, ◌+◌, ◌-◌, ◌≤◌, ◌<◌}
 use mathlib.Core.Bool.{Bool, true, false, cond}
 use mathlib.Core.Path.{◌≡◌, refl, sym, ap, subst, ◌∙◌}
 use mathlib.Core.List.{List, [], ◌∷◌, ◌++◌}
-use native.Mathlib.Numerals.{add-one}
+use native.Mathlib.Numerals.{one-add}
 use native.Mathlib.Omega.{arith}
-use lib.Dec.{ltb}
-use lib.ListN.{length, take, drop, get_or, take-append-drop, drop_of_length-le, length-append, length-drop}
-use lib.Seq.{drop-cons, drop-drop, take-add, take_at}
-use borrow.Author.Tests.{ltb-true, ltb-false}
+use lib.Dec.{eqb}
+use lib.ListN.{length, take, drop, get_or, length-append, length-drop}
+use lib.Seq.{drop-drop, drop_at, get_or-take, length-take-le}
+use borrow.Author.Tests.{eq-eqb, ne_eqb}
+use Rattle.std.specs.Prelude.{Option, Some, None}
+use Rattle.std.specs.List.{prefix_len, AllWithin, HoldsAt}
+use Rattle.std.specs.Option.{MatchOption}
+use Rattle.std.proofs.lemmas.List.Sums.{prefix_len-le-length, prefix_len_is}
+use Rattle.std.proofs.lemmas.List.Folds.{prefix_len-append}
 use Rattle.base.specs.Logic.{Every}
-use Rattle.grammar.specs.Listing.{LongestRun}
-use Rattle.base.proofs.Lists.{every_append}
+use Rattle.base.proofs.Lists.{every_at}
 use Rattle.base.proofs.Tests.{by_ltb}
+use Rattle.grammar.specs.Listing.{LongestRun}
 use Rattle.words.specs.NextIs.{PassTo, RunTo}
 
 module _ (p : ℕ → Bool) where
-  -- the longest run at the head of a text, and what stands after it
-  unfoldable run : List ℕ → List ℕ
-  run [] = []
-  run (b ∷ t) = cond (p b) (b ∷ run t) []
-
-  unfoldable pub past : List ℕ → List ℕ
-  past [] = []
-  past (b ∷ t) = cond (p b) (past t) (b ∷ t)
-
-  run_past : (t : List ℕ) → LongestRun p t (run t) (past t)
-  unfolding run past
-  run_past [] = record { cut = refl; each = Every.none; longest = refl }
-  run_past (b ∷ t) = go (p b) refl (run_past t)
+  head_run : (t : List ℕ) → LongestRun p t (take (prefix_len p t) t) (drop (prefix_len p t) t)
+  head_run [] = record { cut = refl; each = Every.none; longest = refl }
+  head_run (b ∷ t) = go (p b) refl (head_run t)
     where
-      go : (c : Bool) → p b ≡ c → LongestRun p t (run t) (past t) → LongestRun p (b ∷ t) (cond c (b ∷ run t) []) (cond c (past t) (b ∷ t))
-      go true h r = record { cut = ap (λ (l : List ℕ). b ∷ l) r.cut; each = Every.more h r.each; longest = r.longest }
-      go false h r = record { cut = refl; each = Every.none; longest = h }
+      go : (c : Bool) → p b ≡ c → LongestRun p t (take (prefix_len p t) t) (drop (prefix_len p t) t)
+          → LongestRun p (b ∷ t) (take (cond c (1 + prefix_len p t) 0) (b ∷ t)) (drop (cond c (1 + prefix_len p t) 0) (b ∷ t))
+      go true e r = rw one-add (record { cut = ap (λ (l : List ℕ). b ∷ l) r.cut; each = Every.more e r.each; longest = r.longest })
+      go false e r = record { cut = refl; each = Every.none; longest = e }
 
-  -- a byte that passes is passed over, and any other ends the run, as the end of the text does
-  module _ (t : List ℕ) (i : ℕ) where
-    pub run_goes_on : i < length t → p (get_or t i 0) ≡ true → past (drop i t) ≡ past (drop (i + 1) t)
-    unfolding past
-    run_goes_on h e = rw (add-one, drop-cons t i 0, e) refl
+  pub run_to : (t : List ℕ) (at end : ℕ) → at ≤ length t → at + prefix_len p (drop at t) ≡ end → RunTo p t at end
+  run_to t at end h e =
+      let n : ℕ = prefix_len p (drop at t) in
+      let size : n ≡ end - at = omega arith in
+      let rest : drop n (drop at t) ≡ drop end t = drop-drop n at t ∙ ap (λ (k : ℕ). drop k t) e in
+      record {
+        from = omega arith;
+        within = omega (arith, prefix_len-le-length p (drop at t), length-drop at t);
+        run =
+            subst (λ (r : List ℕ). LongestRun p (drop at t) (take (end - at) (drop at t)) r) rest
+            (subst (λ (k : ℕ). LongestRun p (drop at t) (take k (drop at t)) (drop n (drop at t))) size (head_run (drop at t)));
+      }
 
-    pub run_stops : i < length t → p (get_or t i 0) ≡ false → past (drop i t) ≡ drop i t
-    unfolding past
-    run_stops h e = rw (drop-cons t i 0, e) refl
+  -- ---- what `position` of a byte that does not pass finds
 
-    pub run_at_end : length t ≤ i → past (drop i t) ≡ drop i t
-    unfolding past
-    run_at_end h = rw (drop_of_length-le t h) refl
+  abbrev pub FirstStop : List ℕ → Option ℕ → Type 0
+  FirstStop t r = MatchOption r (AllWithin (λ b. p b ≡ true) t 0 (length t)) (λ i. (i < length t) × HoldsAt (λ b. p b ≡ false) t i × AllWithin (λ b. p b ≡ true) t 0 i)
 
-  -- the bytes up to where the loop stopped are the run
-  pub run_to : (t : List ℕ) (at end : ℕ) → at ≤ end → end ≤ length t → past (drop at t) ≡ drop end t → RunTo p t at end
-  run_to t at end from within e =
-      let r : LongestRun p (drop at t) (run (drop at t)) (drop end t) = subst (LongestRun p (drop at t) (run (drop at t))) e (run_past (drop at t)) in
-      let size : length (run (drop at t)) ≡ end - at =
-      omega (arith, ap length r.cut, length-append (run (drop at t)) (drop end t), length-drop at t, length-drop end t) in
-      let word : take (end - at) (drop at t) ≡ run (drop at t) = ap (take (end - at)) r.cut ∙ take_at (run (drop at t)) (drop end t) (end - at) size in
-      record { from = from; within = within; run = subst (λ (w : List ℕ). LongestRun p (drop at t) w (drop end t)) (sym word) r }
+  pub run_stops : (t : List ℕ) (i : ℕ) → FirstStop t (Some i) → prefix_len p t ≡ i
+  run_stops t i h = prefix_len_is p t i 0 (omega arith) (λ k lt. h.2 k 0 (omega arith) lt) (λ _. h.1 0)
 
-  -- ---- bytes that pass, up to an index
+  pub run_ends : (t : List ℕ) → FirstStop t None → prefix_len p t ≡ length t
+  run_ends t h = prefix_len_is p t (length t) 0 (omega arith) (λ k lt. h k 0 (omega arith) lt) (λ lt. absurd (omega arith))
 
-  past_passing : (w r : List ℕ) → Every (λ b. p b ≡ true) w → past (w ++ r) ≡ past r
-  unfolding past
-  past_passing [] r Every.none = refl
-  past_passing (b ∷ w) r (Every.more e h) = rw e (past_passing w r h)
+  -- ---- the first byte of a chunk that does not pass, as the least of their indices
 
-  module _ (t : List ℕ) (at : ℕ) where
-    pub pass_none : at ≤ length t → PassTo p t at at
-    pass_none h = let none : 0 ≡ at - at = omega arith in record { from = omega arith; within = h; each = subst (λ (n : ℕ). Every (λ b. p b ≡ true) (take n (drop at t))) none Every.none }
-
-    pub pass_more : (i k : ℕ) → PassTo p t at i → i + k ≤ length t → Every (λ b. p b ≡ true) (take k (drop i t)) → PassTo p t at (i + k)
-    pass_more i k h fits passing =
-        let n = i - at in
-        let size : n + k ≡ i + k - at = omega (arith, h.from) in
-        let here : at + n ≡ i = omega (arith, h.from) in
-        let two : take (n + k) (drop at t) ≡ take n (drop at t) ++ take k (drop i t) =
-        take-add n k (drop at t) ∙ ap (λ (l : List ℕ). take n (drop at t) ++ take k l) (drop-drop n at t ∙ ap (λ (m : ℕ). drop m t) here) in
-        record {
-          from = omega (arith, h.from);
-          within = fits;
-          each = subst (λ (m : ℕ). Every (λ b. p b ≡ true) (take m (drop at t))) size
-              (subst (Every (λ b. p b ≡ true)) (sym two) (every_append (take n (drop at t)) (take k (drop i t)) h.each passing));
-        }
-
-    -- the run goes on at least so far
-    pub pass_past : (i : ℕ) → PassTo p t at i → past (drop at t) ≡ past (drop i t)
-    pass_past i h =
-        let here : at + (i - at) ≡ i = omega (arith, h.from) in
-        ap past (sym (take-append-drop (i - at) (drop at t))) ∙ past_passing (take (i - at) (drop at t)) (drop (i - at) (drop at t)) h.each
-        ∙ ap past (drop-drop (i - at) at t ∙ ap (λ (m : ℕ). drop m t) here)
-
-    -- ---- the first byte of a chunk that does not pass, as the least of their indices
-
-    pass_one : (i : ℕ) → PassTo p t at (at + i) → at + i < length t → p (get_or t (at + i) 0) ≡ true → PassTo p t at (at + (i + 1))
-    unfolding take
-    pass_one i h fits e =
-        let one : Every (λ b. p b ≡ true) (take 1 (drop (at + i) t)) =
-        subst (λ (l : List ℕ). Every (λ b. p b ≡ true) (take 1 l)) (sym (drop-cons t (at + i) 0 fits)) (Every.more e Every.none) in
-        let next : at + i + 1 ≡ at + (i + 1) = omega arith in
-        subst (PassTo p t at) next (pass_more (at + i) 1 h (omega arith) one)
-
+  module _ (c : List ℕ) where
     -- of the first i bytes of n, first is the index of the first that does not pass, or n
     pub record Led (n first i : ℕ) : Type 0 where
-      pub low : i ≤ n
       pub top : first ≤ n
-      pub passing : (m : ℕ) → m ≤ i → m ≤ first → PassTo p t at (at + m)
-      pub stops : first < n → (first < i) × (p (get_or t (at + first) 0) ≡ false)
+      pub passing : (k : ℕ) → k < i → k < first → p (get_or c k 0) ≡ true
+      pub stops : first < n → (first < i) × (p (get_or c first 0) ≡ false)
 
-    module _ (n : ℕ) (fits : at + n ≤ length t) where
-      pub led_none : Led n n 0
-      led_none =
-          record {
-            low = omega arith;
-            top = omega arith;
-            passing = λ m none over. let here : at ≡ at + m = omega arith in subst (PassTo p t at) here (pass_none (omega arith));
-            stops = λ lt. absurd (omega arith);
-          }
+    pub led_none : (n : ℕ) → Led n n 0
+    led_none n = record { top = omega arith; passing = λ k none. absurd (omega arith); stops = λ lt. absurd (omega arith) }
 
-      pub led_more : (first i : ℕ) → Led n first i → i < n → (stop least : ℕ) → stop ≡ cond (p (get_or t (at + i) 0)) n i → least ≡ cond (ltb stop first) stop first
-          → Led n least (i + 1)
-      led_more first i h lt stop least es el = go (p (get_or t (at + i) 0)) refl es (ltb stop first) refl el
-        where
-          go : (c : Bool) → p (get_or t (at + i) 0) ≡ c → stop ≡ cond c n i → (l : Bool) → ltb stop first ≡ l → least ≡ cond l stop first → Led n least (i + 1)
-          go true e s true less is = absurd (omega (arith, h.top, ltb-true stop first less))
-          go true e s false less is =
-              record {
-                low = omega arith;
-                top = omega (arith, h.top);
-                passing = λ m among below.
-                    by_ltb i m (λ beyond. let last : i + 1 ≡ m = omega arith in subst (λ (k : ℕ). PassTo p t at (at + k)) last (pass_one i (h.passing i (omega arith) (omega arith)) (omega arith) e))
-                    (λ before. h.passing m before (omega arith));
-                stops = λ short. subst (λ (f : ℕ). (f < i + 1) × (p (get_or t (at + f) 0) ≡ false)) (sym is) (let o = h.stops (omega arith) in (omega (arith, o.0), o.1));
-              }
-          go false e s true less is =
-              let here : i ≡ least = omega arith in
-              let before : i < first = omega (arith, ltb-true stop first less) in
-              record {
-                low = omega arith;
-                top = omega arith;
-                passing = λ m among below. h.passing m (omega arith) (omega arith);
-                stops = λ short. (omega arith, subst (λ (f : ℕ). p (get_or t (at + f) 0) ≡ false) here e);
-              }
-          go false e s false less is =
-              let over : first ≤ i = omega (arith, ltb-false stop first less) in
-              record {
-                low = omega arith;
-                top = omega arith;
-                passing = λ m among below. h.passing m (omega arith) (omega arith);
-                stops = λ short. subst (λ (f : ℕ). (f < i + 1) × (p (get_or t (at + f) 0) ≡ false)) (sym is) (let o = h.stops (omega arith) in (omega (arith, o.0), o.1));
-              }
+    pub led_more : (n first i : ℕ) → Led n first i → i < n → (stop least : ℕ) → stop ≡ cond (p (get_or c i 0)) n i → least ≡ min first stop → Led n least (i + 1)
+    led_more n first i h lt stop least es el = go (p (get_or c i 0)) refl es
+      where
+        here : (k : ℕ) → k < i + 1 → k < first → p (get_or c i 0) ≡ true → p (get_or c k 0) ≡ true
+        here k among below e =
+            by_ltb k i (λ before. h.passing k before below)
+            (λ beyond. let last : i ≡ k = omega arith in subst (λ (j : ℕ). p (get_or c j 0) ≡ true) last e)
 
-    pub led_all : (n first i : ℕ) → Led n first i → n ≤ i → (first ≤ n) × PassTo p t at (at + first) × (first < n → p (get_or t (at + first) 0) ≡ false)
-    led_all n first i h over = (h.top, h.passing first (omega (arith, h.top, h.low)) (omega arith), λ lt. (h.stops lt).1)
+        go : (b : Bool) → p (get_or c i 0) ≡ b → stop ≡ cond b n i → Led n least (i + 1)
+        go true e s =
+            let is : first ≡ least = omega (arith, h.top) in
+            record {
+              top = omega (arith, h.top);
+              passing = λ k among below. here k among (omega arith) e;
+              stops = λ short. subst (λ (f : ℕ). (f < i + 1) × (p (get_or c f 0) ≡ false)) is (let o = h.stops (omega arith) in (omega (arith, o.0), o.1));
+            }
+        go false e s =
+            record {
+              top = omega arith;
+              passing = λ k among below. h.passing k (omega arith) (omega arith);
+              stops = λ short.
+                  by_ltb i first
+                  (λ before. let is : i ≡ least = omega arith in (omega arith, subst (λ (f : ℕ). p (get_or c f 0) ≡ false) is e))
+                  (λ beyond.
+                  let is : first ≡ least = omega arith in
+                  subst (λ (f : ℕ). (f < i + 1) × (p (get_or c f 0) ≡ false)) is (let o = h.stops (omega arith) in (omega (arith, o.0), o.1)));
+            }
 
-  -- ---- the run from at on ends where that from i on does
+    pub led_all : (n first i : ℕ) → length c ≡ n → n ≤ i → Led n first i → (first ≤ n) × PassTo p c 0 first × (first < n → p (get_or c first 0) ≡ false)
+    led_all n first i long over h =
+        let size : first - 0 ≡ first = omega arith in
+        let run : prefix_len p c ≡ first - 0 =
+        prefix_len_is p c first 0 (omega (arith, h.top)) (λ k lt. h.passing k (omega (arith, h.top)) lt) (λ lt. (h.stops (omega arith)).1) ∙ sym size in (
+          h.top,
+          record { from = omega arith; within = omega (arith, h.top); each = subst (λ (k : ℕ). Every (λ b. p b ≡ true) (take k c)) run (head_run c).each },
+          λ lt. (h.stops lt).1,
+        )
 
-  module _ (t : List ℕ) (at : ℕ) where
-    pub record Passed (i : ℕ) : Type 0 where
-      pub from : at ≤ i
-      pub within : i ≤ length t
-      pub same : past (drop at t) ≡ past (drop i t)
+    -- and so it is known how long the run is
+    lead_is : (lead : ℕ) → PassTo p c 0 lead → (lead < length c → p (get_or c lead 0) ≡ false) → prefix_len p c ≡ lead
+    lead_is lead h stops =
+        let size : lead - 0 ≡ lead = omega arith in
+        let each : Every (λ b. p b ≡ true) (take lead c) = subst (λ (k : ℕ). Every (λ b. p b ≡ true) (take k c)) size h.each in
+        prefix_len_is p c lead 0 h.within (λ k lt. rw get_or-take at (every_at (take lead c) each k (omega (arith, length-take-le lead c h.within)))) stops
 
-    pub passed_none : at ≤ length t → Passed at
-    passed_none h = record { from = omega arith; within = h; same = refl }
+  -- ---- the chunk c comes at the index at of a text
 
-    pub passed_to : (i j : ℕ) → Passed i → PassTo p t i j → Passed j
-    passed_to i j h g = record { from = omega (arith, h.from, g.from); within = g.within; same = h.same ∙ pass_past t i j g }
+  module _ (t : List ℕ) (at : ℕ) (c rest : List ℕ) (next : drop at t ≡ c ++ rest) (lead : ℕ) (h : PassTo p c 0 lead) where
+    run_over_chunk : {b : Bool} → prefix_len p c ≡ lead → eqb (prefix_len p c) (length c) ≡ b → prefix_len p (drop at t) ≡ cond b (length c + prefix_len p rest) lead
+    run_over_chunk run e = ap (prefix_len p) next ∙ prefix_len-append p c rest ∙ (λ i. cond (e i) (length c + prefix_len p rest) (run i))
 
-    pub passed_one : (i : ℕ) → Passed i → i < length t → p (get_or t i 0) ≡ true → Passed (i + 1)
-    passed_one i h fits e = record { from = omega (arith, h.from); within = omega arith; same = h.same ∙ run_goes_on t i fits e }
+    pub run_in_chunk : lead < length c → p (get_or c lead 0) ≡ false → prefix_len p (drop at t) ≡ lead
+    run_in_chunk lt stops = let run = lead_is c lead h (λ _. stops) in run_over_chunk run (ne_eqb (prefix_len p c) (length c) (λ e. omega arith))
 
-    pub passed_stops : (i : ℕ) → Passed i → i < length t → p (get_or t i 0) ≡ false → RunTo p t at i
-    passed_stops i h fits e = run_to t at i h.from h.within (h.same ∙ run_stops t i fits e)
+    module _ (long : length c ≡ lead) where
+      pub after_chunk : drop (at + lead) t ≡ rest
+      after_chunk = sym (drop-drop lead at t) ∙ ap (drop lead) next ∙ drop_at c rest lead long
 
-    pub passed_end : (i : ℕ) → Passed i → length t ≤ i → RunTo p t at i
-    passed_end i h over = run_to t at i h.from h.within (h.same ∙ run_at_end t i over)
+      pub chunk_within : at ≤ length t → at + lead ≤ length t
+      chunk_within within = omega (arith, ap length next, length-drop at t, length-append c rest)
+
+      pub run_past_chunk : prefix_len p (drop at t) ≡ lead + prefix_len p (drop (at + lead) t)
+      run_past_chunk =
+          let run = lead_is c lead h (λ lt. absurd (omega arith)) in
+          run_over_chunk run (eq-eqb (prefix_len p c) (length c) (omega arith))
+          ∙ (λ i. long i + prefix_len p (sym after_chunk i))

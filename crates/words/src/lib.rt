@@ -3,7 +3,7 @@
 // looked at once more for each word that ends in the 31 bytes before it, which are sixteen at most.
 #![tactic(auto)]
 
-ghost use Rattle.std.specs.Prelude.{◌≡◌, ◌+◌, ◌≤◌, ◌<◌, false, cond, ltb, length, get_or};
+ghost use Rattle.std.specs.Prelude.{◌≡◌, ◌≤◌, ◌<◌, false, cond, length, get_or};
 ghost use Rattle.grammar.specs.Listing.{kind_of, is_word_byte, is_comment_byte};
 ghost use Rattle.words.specs.NextIs.{kind_meant, PassTo, RunTo, NextIs};
 
@@ -54,32 +54,18 @@ const CHUNK: u8 = 32;
 fn stop_at(b: u8, i: u8) -> u8
     ensures { result ≡ cond (is_word_byte b) 32 i }
 {
-    if is_word_byte(b) {
-        return CHUNK;
-    }
-    i
+    if is_word_byte(b) { CHUNK } else { i }
 }
 
-fn lesser(a: u8, b: u8) -> u8
-    ensures { result ≡ cond (ltb a b) a b }
-{
-    if a < b {
-        return a;
-    }
-    b
-}
-
-// How many bytes of the chunk from `at` on are a word's, up to the first that is not: the least index of such a byte, with no way out before the last, so
-// that all are taken at once and where a word ends need not be guessed.
-fn word_lead(text: &[u8], at: usize) -> u8
-    requires { at + 32 ≤ length text.now }
-    ensures { (result ≤ 32) × PassTo is_word_byte text.now at (at + result) × (result < 32 → is_word_byte (get_or text.now (at + result) 0) ≡ false) }
+// How many bytes of a chunk are a word's, up to the first that is not: the least index of such a byte, with no way out before the last, so that all are
+// taken at once and where a word ends need not be guessed.
+fn word_lead(chunk: &[u8]) -> u8
+    requires { length chunk.now ≡ 32 }
+    ensures { (result ≤ 32) × PassTo is_word_byte chunk.now 0 result × (result < 32 → is_word_byte (get_or chunk.now result 0) ≡ false) }
 {
     let mut first = CHUNK;
-    let mut i: u8 = 0;
-    while i < CHUNK {
-        first = lesser(stop_at(text[at + i as usize], i), first);
-        i += 1;
+    for i in 0..CHUNK {
+        first = first.min(stop_at(chunk[i as usize], i));
     }
     first
 }
@@ -89,21 +75,18 @@ fn word_end(text: &[u8], at: usize) -> usize
     requires { at ≤ length text.now }
     ensures { RunTo is_word_byte text.now at result }
 {
-    let mut i = at;
-    while CHUNK as usize <= text.len() - i {
-        let lead = word_lead(text, i);
+    let mut end = at;
+    for chunk in text[at..].chunks_exact(CHUNK as usize) {
+        let lead = word_lead(chunk);
+        end += lead as usize;
         if lead < CHUNK {
-            return i + lead as usize;
+            return end;
         }
-        i += CHUNK as usize;
     }
-    while i < text.len() {
-        if !is_word_byte(text[i]) {
-            return i;
-        }
-        i += 1;
+    match text[end..].iter().position(|b| !is_word_byte(*b)) {
+        Some(left) => end + left,
+        None => text.len(),
     }
-    i
 }
 
 // Where the longest run of bytes of a comment from `at` on ends.
@@ -111,14 +94,10 @@ fn comment_end(text: &[u8], at: usize) -> usize
     requires { at ≤ length text.now }
     ensures { RunTo is_comment_byte text.now at result }
 {
-    let mut i = at;
-    while i < text.len() {
-        if !is_comment_byte(text[i]) {
-            return i;
-        }
-        i += 1;
+    match text[at..].iter().position(|b| !is_comment_byte(*b)) {
+        Some(length) => at + length,
+        None => text.len(),
     }
-    i
 }
 
 // What comes next in an entry.
@@ -173,7 +152,7 @@ pub fn next_word(text: &[u8], at: usize, inside: bool) -> Next
                 let end = word_end(text, i);
                 return Next::Word {
                     start: i,
-                    end: end,
+                    end,
                     inside: within,
                 };
             }

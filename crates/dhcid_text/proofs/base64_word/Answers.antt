@@ -1,10 +1,9 @@
-use Prim.Native.Nat.{ℕ, ◌-◌, ◌≤◌, ◌<◌}
-use mathlib.Core.Path.{◌≡◌, refl, subst, ◌∙◌}
-use mathlib.Core.Logic.{⊎_elim}
-use mathlib.Core.List.{List, ◌++◌}
+use Prim.Native.Nat.{ℕ, ◌-◌}
+use mathlib.Core.Path.{◌≡◌, refl, ap, subst, ◌∙◌}
+use mathlib.Core.List.{List, ◌++◌, append_assoc}
 use native.Mathlib.Omega.{arith}
 use borrow.Author.Rules.{rules}
-use lib.ListN.{length, take}
+use lib.ListN.{length, take, drop, take-append-drop, length-drop}
 use lib.Seq.{take_all}
 use Rattle.base.specs.Bytes.{tabulate}
 use Rattle.dhcid_text.specs.Base64.{value64}
@@ -17,31 +16,29 @@ pub read_quanta-passed-requires : goal.read_quanta-passed-requires
 unfolding tabulate value64
 read_quanta-passed-requires c = (refl, search rules)
 
-pub overflow_add-sextets : goal.overflow_add-sextets
-overflow_add-sextets c = ⊎_elim (λ e. omega arith) (λ e. omega arith) c.read_quanta-passed.ensures.0.fits
-
-pub loop-i-init : goal.loop-i-init
-loop-i-init c = (c.read_quanta-passed.ensures.0.within, c.read_quanta-passed.auto.bytes ∙ search rules, λ cs t. t)
-
-pub base64_character-next-requires : goal.base64_character-next-requires
+pub base64_character-sextets-requires : goal.base64_character-sextets-requires
 unfolding tabulate value64
-base64_character-next-requires c = (refl, search rules)
+base64_character-sextets-requires c = (refl, search rules)
 
-pub loop-i-preserved : goal.loop-i-preserved
-loop-i-preserved c =
+pub loop-b-preserved : goal.loop-b-preserved
+loop-b-preserved c =
     let w = c.args.word.now in
-    let l = c.loop-i in
-    let lt : l.i < length w = omega arith in (
-      omega arith,
-      c.base64_character-next.auto.bytes ∙ l.invariant.1,
-      λ cs t. one_character_more cs w l.i lt (c.base64_character-next.ensures (cs ++ take l.i w) (l.invariant.2 cs t)),
+    let rest : List ℕ = take (length w - c.read_quanta-passed.result) (drop c.read_quanta-passed.result w) in
+    let l = c.loop-b in (
+      c.base64_character-sextets.auto.bytes ∙ l.invariant.0,
+      λ cs t. one_character_more cs rest l.b-index c.loop-b-test.true (c.base64_character-sextets.ensures (cs ++ take l.b-index rest) (l.invariant.1 cs t)),
     )
 
 pub returns : goal.returns
 returns c =
-    let a = c.args in
-    let w = a.word.now in
-    let l = c.loop-i in
+    let s = c.args.s in
+    let w = c.args.word.now in
+    let p = c.read_quanta-passed.result in
+    let l = c.loop-b in
+    let left : take l.b-index (take (length w - p) (drop p w)) ≡ drop p w =
+    take_all l.b-index _ c.loop-b-test.false ∙ take_all (length w - p) (drop p w) (omega (arith, length-drop p w)) in
+    let all = ap (λ (x : List ℕ). take p w ++ x) left ∙ take-append-drop p w in
     λ cs t.
-    subst (λ (x : List ℕ). Text64 (cs ++ x) (with_bytes l.sextets l.bytes)) (take_all l.i w (omega arith))
-    (l.invariant.2 cs (c.read_quanta-passed.ensures.1 a.s.form a.s.pending cs t))
+    subst (λ (x : List ℕ). Text64 x (with_bytes l.sextets l.bytes))
+    (append_assoc cs (take p w) _ ∙ ap (λ (x : List ℕ). cs ++ x) all)
+    (l.invariant.1 (cs ++ take p w) (c.read_quanta-passed.ensures.1 s.form s.pending cs t))

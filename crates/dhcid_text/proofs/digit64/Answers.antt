@@ -2,7 +2,6 @@ use mathlib.Core.Path.{refl, sym}
 use native.Mathlib.Omega.{arith}
 use borrow.Author.Tests.{lt-ltb, le-ltb, eq-eqb, ne_eqb}
 use Rattle.dhcid_text.proofs.Base64Laws.{digit_of}
-use borrow.Author.Rules.{rules}
 use Rattle.dhcid_text.proofs.digit64.Goals as goal
 
 pub returns-then-v-lt26 : goal.returns-then-v-lt26

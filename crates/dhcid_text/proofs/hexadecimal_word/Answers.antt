@@ -1,5 +1,4 @@
 use Rattle.dhcid_text.proofs.DhcidWordLaws.{odd_word, even_word}
-use borrow.Author.Rules.{rules}
 use Rattle.dhcid_text.proofs.hexadecimal_word.Goals as goal
 
 pub returns-then-word-ne0 : goal.returns-then-word-ne0

@@ -1,7 +1,6 @@
 use mathlib.Core.Path.{refl}
 use Rattle.dhcid_text.specs.DhcidReading.{with_bytes}
 use Rattle.dhcid_text.proofs.DhcidLaws.{no_pad, spare_bits, last_pad}
-use borrow.Author.Rules.{rules}
 use Rattle.dhcid_text.proofs.last_character.Goals as goal
 
 pub returns-then-b-ne-PAD : goal.returns-then-b-ne-PAD

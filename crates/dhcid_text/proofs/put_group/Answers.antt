@@ -4,7 +4,6 @@ use mathlib.Core.Path.{◌∙◌}
 use native.Mathlib.Omega.{arith}
 use lib.ListN.{set, length-set}
 use Rattle.dhcid_text.proofs.Base64Laws.{four_stored}
-use borrow.Author.Rules.{rules}
 use Rattle.dhcid_text.proofs.put_group.Goals as goal
 
 pub bounds-to-at-2 : goal.bounds-to-at-2

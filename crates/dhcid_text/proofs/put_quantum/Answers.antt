@@ -1,7 +1,6 @@
 use native.Mathlib.Omega.{arith}
 use lib.ListN.{length-set}
 use Rattle.dhcid_text.proofs.DhcidLaws.{whole_quantum}
-use borrow.Author.Rules.{rules}
 use Rattle.dhcid_text.proofs.put_quantum.Goals as goal
 
 pub bounds-bytes-at-2 : goal.bounds-bytes-at-2

@@ -1,7 +1,6 @@
 use native.Mathlib.Omega.{arith}
 use Rattle.base.proofs.Fill.{looked_up}
 use Rattle.dhcid_text.specs.Base64.{value64}
-use borrow.Author.Rules.{rules}
 use Rattle.dhcid_text.proofs.value64.Goals as goal
 
 pub returns : goal.returns

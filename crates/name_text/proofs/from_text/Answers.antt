@@ -2,27 +2,26 @@ use Prim.Native.Nat.{◌+◌, ◌-◌}
 use mathlib.Core.Path.{refl, ap, ◌∙◌}
 use mathlib.Core.Logic.{inl}
 use native.Mathlib.Omega.{arith}
-use borrow.Author.Rules.{rules}
 use lib.ListN.{length}
 use Rattle.name.specs.NotInLabel.{count_not_in_label}
 use Rattle.name.proofs.LeadLaws.{lead_within}
-use Rattle.name.proofs.ReadingLaws.{Reading, refused, invalid, no_bytes, too_long, no_last_dot, taken_over, word_in, reading_none, empty_label, long_label, some_left_over, reading_more, count_over, reading_all}
+use Rattle.name.proofs.ReadingLaws.{refused, invalid, no_bytes, too_long, no_last_dot, taken_over, word_in, reading_none, empty_label, long_label, some_left_over, reading_more, count_over, reading_all}
 use Rattle.name_text.proofs.from_text.Goals as goal
 
 pub returns-then-n-eq0 : goal.returns-then-n-eq0
 returns-then-n-eq0 c =
     let w = c.args.word.now in
-    refused w _ c.no_name.ensures (λ n s. no_bytes w n s c.if-n-eq0.true)
+    refused w (λ n s. no_bytes w n s c.if-n-eq0.true)
 
 pub returns-then-n-gt-LONGEST_TEXT : goal.returns-then-n-gt-LONGEST_TEXT
 returns-then-n-gt-LONGEST_TEXT c =
     let w = c.args.word.now in
-    refused w _ c.no_name-then-n-gt-LONGEST_TEXT.ensures (λ n s. too_long w n s c.if-n-gt-LONGEST_TEXT.true)
+    refused w (λ n s. too_long w n s c.if-n-gt-LONGEST_TEXT.true)
 
 pub returns-then-word-n-ne-DOT : goal.returns-then-word-n-ne-DOT
 returns-then-word-n-ne-DOT c =
     let w = c.args.word.now in
-    refused w _ c.no_name-then-word-n-ne-DOT.ensures (λ n s. no_last_dot w n (length w - 1) s (omega arith) c.if-word-n-ne-DOT.true)
+    refused w (λ n s. no_last_dot w n (length w - 1) s (omega arith) c.if-word-n-ne-DOT.true)
 
 pub loop-i-init : goal.loop-i-init
 loop-i-init c =
@@ -43,14 +42,14 @@ returns-then-size-eq0 c =
     let w = c.args.word.now in
     let l = c.loop-i in
     let none = empty_label w _ _ l.i l.invariant c.loop-i-test.true (omega (arith, c.next_dot-end.ensures, c.if-size-eq0.true)) in
-    refused w _ c.no_name-then-size-eq0.ensures (λ n s. invalid w n s none)
+    refused w (λ n s. invalid w n s none)
 
 pub returns-then-size-gt-LONGEST_LABEL : goal.returns-then-size-gt-LONGEST_LABEL
 returns-then-size-gt-LONGEST_LABEL c =
     let w = c.args.word.now in
     let l = c.loop-i in
     let none = long_label w _ _ l.i l.invariant c.loop-i-test.true c.if-word-n-ne-DOT.false (omega (arith, c.next_dot-end.ensures, c.if-size-gt-LONGEST_LABEL.true)) in
-    refused w _ c.no_name-then-size-gt-LONGEST_LABEL.ensures (λ n s. invalid w n s none)
+    refused w (λ n s. invalid w n s none)
 
 pub overflow_sub-left : goal.overflow_sub-left
 overflow_sub-left c =
@@ -66,7 +65,7 @@ pub returns-then-left-ne0 : goal.returns-then-left-ne0
 returns-then-left-ne0 c =
     let w = c.args.word.now in
     let l = c.loop-i in
-    refused w _ c.no_name-then-left-ne0.ensures (λ n s. invalid w n s (count_over w _ _ l.i l.invariant c.loop-i-test.false c.if-left-ne0.true))
+    refused w (λ n s. invalid w n s (count_over w _ _ l.i l.invariant c.loop-i-test.false c.if-left-ne0.true))
 
 pub returns : goal.returns
 returns c =

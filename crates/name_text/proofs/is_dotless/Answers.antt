@@ -1,9 +1,7 @@
-use Prim.Native.Nat.{◌-◌}
 use mathlib.Core.Path.{sym, ◌∙◌}
 use mathlib.Core.Bool.{true≢false}
 use native.Mathlib.Omega.{arith}
-use borrow.Author.Rules.{rules}
-use Rattle.name.proofs.LeadLaws.{Dotless, dotless_none, dotless_more}
+use Rattle.name.proofs.LeadLaws.{dotless_none, dotless_more}
 use Rattle.name_text.proofs.is_dotless.Goals as goal
 
 pub loop-i-init : goal.loop-i-init

@@ -1,9 +1,5 @@
 use Prim.Native.Nat.{◌-◌}
-use mathlib.Core.Path.{sym, ◌∙◌}
-use mathlib.Core.Bool.{true≢false}
-use native.Mathlib.Omega.{arith}
-use borrow.Author.Rules.{rules}
-use Rattle.name.proofs.LeadLaws.{Dotless, dotless_none, dotless_more}
+use Rattle.name.proofs.LeadLaws.{Dotless}
 use Rattle.name_text.proofs.is_dotless.Given as goal
 
 abbrev pub invariant-loop-i : goal.invariant-loop-i

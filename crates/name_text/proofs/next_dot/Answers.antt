@@ -1,7 +1,5 @@
-use Prim.Native.Nat.{◌-◌}
 use native.Mathlib.Omega.{arith}
-use lib.ListN.{length}
-use Rattle.name.proofs.LeadLaws.{Passing, passing_byte, passing_dot, lead_within}
+use Rattle.name.proofs.LeadLaws.{passing_byte, passing_dot, lead_within}
 use Rattle.name_text.proofs.next_dot.Goals as goal
 
 pub pass_chunks-i-requires : goal.pass_chunks-i-requires

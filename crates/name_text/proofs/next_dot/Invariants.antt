@@ -1,7 +1,6 @@
 use Prim.Native.Nat.{◌-◌}
-use native.Mathlib.Omega.{arith}
 use lib.ListN.{length}
-use Rattle.name.proofs.LeadLaws.{Passing, passing_byte, passing_dot, lead_within}
+use Rattle.name.proofs.LeadLaws.{Passing}
 use Rattle.name_text.proofs.next_dot.Given as goal
 
 abbrev pub invariant-loop-i : goal.invariant-loop-i

@@ -1,8 +1,5 @@
-use Prim.Native.Nat.{◌-◌}
 use native.Mathlib.Omega.{arith}
-use borrow.Author.Tests.{not-false}
-use lib.ListN.{length}
-use Rattle.name.proofs.LeadLaws.{Passing, passing_none, passing_more}
+use Rattle.name.proofs.LeadLaws.{passing_none, passing_more}
 use Rattle.name_text.proofs.pass_chunks.Goals as goal
 
 pub loop-i-init : goal.loop-i-init

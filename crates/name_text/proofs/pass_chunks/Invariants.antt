@@ -1,8 +1,6 @@
 use Prim.Native.Nat.{◌-◌}
-use native.Mathlib.Omega.{arith}
-use borrow.Author.Tests.{not-false}
 use lib.ListN.{length}
-use Rattle.name.proofs.LeadLaws.{Passing, passing_none, passing_more}
+use Rattle.name.proofs.LeadLaws.{Passing}
 use Rattle.name_text.proofs.pass_chunks.Given as goal
 
 abbrev pub invariant-loop-i : goal.invariant-loop-i

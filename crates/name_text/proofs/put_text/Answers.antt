@@ -1,9 +1,9 @@
-use Prim.Native.Nat.{◌+◌, ◌-◌}
+use Prim.Native.Nat.{◌+◌}
 use mathlib.Core.Path.{◌∙◌}
 use native.Mathlib.Omega.{arith}
 use Rattle.base.proofs.Fill.{copied_none, copied_all}
 use Rattle.name.specs.Promise.{text_of}
-use Rattle.name.proofs.DottedLaws.{length_text_of, Dotting, names_size, dotting_none, dotting_more, dotting_all, dotted_all}
+use Rattle.name.proofs.DottedLaws.{length_text_of, names_size, dotting_none, dotting_more, dotting_all, dotted_all}
 use Rattle.name_text.proofs.put_text.Goals as goal
 
 pub returns-then-n-eq0 : goal.returns-then-n-eq0

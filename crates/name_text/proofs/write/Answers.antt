@@ -1,7 +1,5 @@
 use mathlib.Core.Path.{refl, sym}
 use native.Mathlib.Omega.{arith}
-use borrow.Author.Rules.{rules}
-use borrow.Author.Tests.{not-true, not-false}
 use Rattle.name_text.specs.Calls.{WritesText}
 use Rattle.name_text.proofs.CallLaws.{within, area_size, front_size, write_short, write_whole}
 use Rattle.name_text.proofs.write.Goals as goal

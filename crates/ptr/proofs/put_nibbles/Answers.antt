@@ -1,21 +1,9 @@
 use Prim.Native.Nat.{ℕ}
 use mathlib.Core.Path.{ap₂, ◌∙◌}
 use mathlib.Core.List.{[], ◌∷◌}
-use native.Mathlib.Omega.{arith}
-use borrow.Author.Rules.{rules}
-use lib.ListN.{length-set}
 use Rattle.base.specs.Bytes.{overlay}
 use Rattle.ptr.proofs.PutLaws.{four_stores}
 use Rattle.ptr.proofs.put_nibbles.Goals as goal
-
-pub bounds-to-at-2 : goal.bounds-to-at-2
-bounds-to-at-2 c = simp length-set (omega arith)
-
-pub bounds-to-at-3 : goal.bounds-to-at-3
-bounds-to-at-3 c = simp length-set (omega arith)
-
-pub bounds-to-at-4 : goal.bounds-to-at-4
-bounds-to-at-4 c = simp length-set (omega arith)
 
 pub returns : goal.returns
 returns c =

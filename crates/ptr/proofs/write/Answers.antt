@@ -1,12 +1,8 @@
 use mathlib.Core.Path.{◌≡◌, refl, sym, ap, ◌∙◌}
 use mathlib.Core.Logic.{inl, inr}
 use native.Mathlib.Omega.{arith}
-use borrow.Author.Rules.{rules}
-use borrow.Author.Tests.{not-true, not-false}
 use lib.ListN.{length}
-use Rattle.base.specs.Bytes.{overlay}
 use Rattle.base.specs.Family.{KnownFamily}
-use Rattle.base.specs.declared.Answer.TheVariants.{Accepted}
 use Rattle.slots.specs.Entry.{family_of, address_size}
 use Rattle.slots.specs.declared.Family.{Family}
 use Rattle.ptr.specs.Ptr.{ptr_name, PtrWritten}
@@ -54,10 +50,3 @@ overflow_cast-result c =
     let s = sized (goal.at.overflow_cast-result c).After-name_length-len in
     let a = c.args in
     omega (arith, s.1, short (family_of a.family) a.address.now s.0)
-
-pub returns : goal.returns
-returns c =
-    let a = c.args in
-    let s = sized (goal.at.returns c).After-name_length-len in
-    PtrWritten.written ((known (goal.at.returns c).After-address_size).0, (s.0, (omega (arith, s.1), tt))) (ap Accepted s.1)
-    (c.put_name.ensures ∙ ap (λ (f : Family). overlay a.out.now 0 (ptr_name f a.address.now)) c.family_of-version.ensures)

@@ -1,29 +1,35 @@
-use Prim.Native.Nat.{◌-◌, ◌≤◌}
-use mathlib.Core.Path.{◌≡◌, sym, ◌∙◌}
+use Prim.Native.Nat.{ℕ, ◌+◌, ◌-◌}
+use mathlib.Core.Bool.{true, false}
+use mathlib.Core.Path.{◌≡◌, ap, ◌∙◌}
 use native.Mathlib.Omega.{arith}
-use lib.ListN.{length, drop}
+use lib.ListN.{length, drop, length-drop}
+use lib.Seq.{take_all}
 use borrow.Author.Rules.{rules}
-use borrow.Author.Tests.{not-true, not-false}
+use borrow.Author.Tests.{tests}
+use Rattle.std.proofs.lemmas.Iterator.{IsFirst-from_position, YieldsList-from_slice}
 use Rattle.grammar.specs.Listing.{is_comment_byte}
-use Rattle.words.proofs.RunLaws.{past, run_goes_on, run_stops, run_at_end, run_to}
+use Rattle.words.proofs.RunLaws.{run_to, FirstStop, run_stops, run_ends}
 use Rattle.words.proofs.comment_end.Goals as goal
+use Rattle.words.proofs.comment_end.Goals.{After-position}
 
-pub returns-then-not-is_comment_byte : goal.returns-then-not-is_comment_byte
-returns-then-not-is_comment_byte c =
+found : (c : After-position) → FirstStop is_comment_byte (drop c.args.at c.args.text.now) c.position.result
+found c =
     let t = c.args.text.now in
-    let i = c.loop-i.i in
-    let e = sym c.is_comment_byte.ensures ∙ c.if-not-is_comment_byte.true in
-    run_to is_comment_byte t c.args.at i (omega arith) (omega arith) (c.loop-i.invariant.same ∙ run_stops is_comment_byte t i (omega arith) e)
+    let at = c.args.at in
+    let given = c.iter.ensures.rest ∙ take_all (length t - at) (drop at t) (omega (arith, length-drop at t)) in
+    IsFirst-from_position _ _ c.position.result (λ b. is_comment_byte b ≡ false) (λ b. is_comment_byte b ≡ true) c.position.ensures.ran (YieldsList-from_slice _ given)
+    (λ x q k. search (rules, tests)) (λ x q k. search (rules, tests))
 
-pub loop-i-preserved : goal.loop-i-preserved
-loop-i-preserved c =
+pub returns-in-Some : goal.returns-in-Some
+returns-in-Some c =
     let t = c.args.text.now in
-    let i = c.loop-i.i in
-    let e = sym c.is_comment_byte.ensures ∙ c.if-not-is_comment_byte.false in
-    record { from = omega arith; within = omega arith; same = c.loop-i.invariant.same ∙ run_goes_on is_comment_byte t i (omega arith) e }
+    let at = c.args.at in
+    let stop = rw c.in-Some.is at (found (goal.at.returns-in-Some c).After-position) in
+    run_to is_comment_byte t at _ c.requires (ap (λ (n : ℕ). at + n) (run_stops is_comment_byte (drop at t) c.in-Some.length stop))
 
-pub returns : goal.returns
-returns c =
+pub returns-in-None : goal.returns-in-None
+returns-in-None c =
     let t = c.args.text.now in
-    let i = c.loop-i.i in
-    run_to is_comment_byte t c.args.at i (omega arith) (omega arith) (c.loop-i.invariant.same ∙ run_at_end is_comment_byte t i (omega arith))
+    let at = c.args.at in
+    let stop = rw c.in-None.is at (found (goal.at.returns-in-None c).After-position) in
+    run_to is_comment_byte t at _ c.requires (omega (arith, length-drop at t, run_ends is_comment_byte (drop at t) stop))

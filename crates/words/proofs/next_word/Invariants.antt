@@ -1,14 +1,8 @@
-use Prim.Native.Nat.{◌+◌, ◌-◌, ◌≤◌}
-use mathlib.Core.Bool.{Bool}
-use mathlib.Core.Path.{◌≡◌, sym, ap, ◌∙◌}
-use native.Mathlib.Omega.{arith}
+use Prim.Native.Nat.{◌-◌, ◌≤◌}
+use mathlib.Core.Path.{◌≡◌}
 use lib.ListN.{length, drop}
-use borrow.Author.Rules.{rules}
-use borrow.Author.Tests.{not-true, not-false}
-use Rattle.grammar.specs.Listing.{blank, line_end, opening, closing, not_allowed, outside, inside}
 use Rattle.grammar.specs.Scan.{plain, scan}
-use Rattle.words.specs.NextIs.{kind_meant, depth_of}
-use Rattle.words.proofs.PieceLaws.{at_byte, at_comment, at_word, at_text_end_lem}
+use Rattle.words.specs.NextIs.{depth_of}
 use Rattle.words.proofs.next_word.Given as goal
 
 -- what the text comes to from i on, at the depth reached, is what it comes to from at on

@@ -1,53 +1,62 @@
-use Prim.Native.Nat.{◌+◌, ◌-◌}
-use mathlib.Core.Path.{◌≡◌, sym, subst, ◌∙◌}
+use Prim.Native.Nat.{◌-◌}
+use mathlib.Core.Bool.{true, false}
+use mathlib.Core.Path.{◌≡◌, sym, ◌∙◌}
 use native.Mathlib.Omega.{arith}
-use lib.ListN.{length}
+use lib.ListN.{length, drop, length-drop}
+use lib.Seq.{take_all}
 use borrow.Author.Rules.{rules}
-use borrow.Author.Tests.{not-true, not-false}
+use borrow.Author.Tests.{tests}
+use Rattle.std.proofs.lemmas.Iterator.{IsFirst-from_position, YieldsList-from_slice}
 use Rattle.grammar.specs.Listing.{is_word_byte}
-use Rattle.words.proofs.RunLaws.{Passed, passed_none, passed_to, passed_one, passed_stops, passed_end}
+use Rattle.words.proofs.RunLaws.{run_to, FirstStop, run_stops, run_ends, run_in_chunk, run_past_chunk, after_chunk, chunk_within}
 use Rattle.words.proofs.word_end.Goals as goal
-
-pub loop-i-init : goal.loop-i-init
-loop-i-init c = passed_none is_word_byte _ _ c.requires
-
-pub overflow_sub-text : goal.overflow_sub-text
-overflow_sub-text c = c.loop-i.invariant.within
-
-pub word_lead-lead-requires : goal.word_lead-lead-requires
-word_lead-lead-requires c = omega (arith, c.loop-i.invariant.within, c.loop-i-test.true)
-
-pub overflow_add-result : goal.overflow_add-result
-overflow_add-result c = omega (arith, c.loop-i.invariant.within, c.loop-i-test.true, c.word_lead-lead.ensures.0)
+use Rattle.words.proofs.word_end.Goals.{After-position}
 
 pub returns-then-lead-lt-CHUNK : goal.returns-then-lead-lt-CHUNK
 returns-then-lead-lt-CHUNK c =
+    let t = c.args.text.now in
+    let i = c.loop-chunk.invariant in
+    let next = c.in-Some.ensures.steps.1 in
     let lead = c.word_lead-lead in
-    passed_stops is_word_byte _ _ (c.loop-i.i + lead.result) (passed_to is_word_byte _ _ c.loop-i.i _ c.loop-i.invariant lead.ensures.1)
-    (omega (arith, c.loop-i.invariant.within, c.loop-i-test.true, c.if-lead-lt-CHUNK.true)) (lead.ensures.2 c.if-lead-lt-CHUNK.true)
+    let small = c.if-lead-lt-CHUNK.true in
+    let run = run_in_chunk is_word_byte t c.loop-chunk.end c.in-Some.chunk.now c.next.new.self.rest.now (sym i.rest ∙ next.0) lead.result lead.ensures.1 (omega arith) (lead.ensures.2 small) in
+    run_to is_word_byte t c.args.at _ c.requires (omega arith)
 
-pub overflow_add-i : goal.overflow_add-i
-overflow_add-i c = omega (arith, c.loop-i.invariant.within, c.loop-i-test.true)
-
-pub loop-i-smaller : goal.loop-i-smaller
-loop-i-smaller c = omega (arith, c.loop-i.invariant.within, c.loop-i-test.true)
-
-pub loop-i-preserved : goal.loop-i-preserved
-loop-i-preserved c =
+pub loop-chunk-preserved : goal.loop-chunk-preserved
+loop-chunk-preserved c =
+    let t = c.args.text.now in
+    let i = c.loop-chunk.invariant in
+    let end = c.loop-chunk.end in
+    let chunk = c.in-Some.chunk.now in
+    let rest = c.next.new.self.rest.now in
+    let next = sym i.rest ∙ c.in-Some.ensures.steps.1.0 in
     let lead = c.word_lead-lead in
-    let whole : c.loop-i.i + lead.result ≡ c.loop-i.i + 32 = omega (arith, lead.ensures.0, c.if-lead-lt-CHUNK.false) in
-    subst (Passed is_word_byte _ _) whole (passed_to is_word_byte _ _ c.loop-i.i _ c.loop-i.invariant lead.ensures.1)
+    let long : length chunk ≡ lead.result = omega (arith, lead.ensures.0, c.in-Some.ensures.steps.1.1) in
+    record {
+      size = omega arith;
+      rest = sym (after_chunk is_word_byte t end chunk rest next lead.result lead.ensures.1 long);
+      within = chunk_within is_word_byte t end chunk rest next lead.result lead.ensures.1 long i.within;
+      same = omega (arith, run_past_chunk is_word_byte t end chunk rest next lead.result lead.ensures.1 long);
+    }
 
-pub loop-i-2-init : goal.loop-i-2-init
-loop-i-2-init c = c.loop-i.invariant
+found : (c : After-position) → FirstStop is_word_byte (drop c.loop-chunk.end c.args.text.now) c.position.result
+found c =
+    let t = c.args.text.now in
+    let end = c.loop-chunk.end in
+    let given = c.iter.ensures.rest ∙ take_all (length t - end) (drop end t) (omega (arith, length-drop end t)) in
+    IsFirst-from_position _ _ c.position.result (λ b. is_word_byte b ≡ false) (λ b. is_word_byte b ≡ true) c.position.ensures.ran (YieldsList-from_slice _ given)
+    (λ x q k. search (rules, tests)) (λ x q k. search (rules, tests))
 
-pub returns-then-not-is_word_byte : goal.returns-then-not-is_word_byte
-returns-then-not-is_word_byte c =
-    passed_stops is_word_byte _ _ c.loop-i-2.i c.loop-i-2.invariant c.loop-i-2-test.true (sym c.is_word_byte.ensures ∙ c.if-not-is_word_byte.true)
+pub returns-in-Some-position : goal.returns-in-Some-position
+returns-in-Some-position c =
+    let t = c.args.text.now in
+    let end = c.loop-chunk.end in
+    let stop = rw c.in-Some-position.is at (found (goal.at.returns-in-Some-position c).After-position) in
+    run_to is_word_byte t c.args.at _ c.requires (omega (arith, run_stops is_word_byte (drop end t) c.in-Some-position.left stop))
 
-pub loop-i-2-preserved : goal.loop-i-2-preserved
-loop-i-2-preserved c =
-    passed_one is_word_byte _ _ c.loop-i-2.i c.loop-i-2.invariant c.loop-i-2-test.true (sym c.is_word_byte.ensures ∙ c.if-not-is_word_byte.false)
-
-pub returns : goal.returns
-returns c = passed_end is_word_byte _ _ c.loop-i-2.i c.loop-i-2.invariant c.loop-i-2-test.false
+pub returns-in-None-position : goal.returns-in-None-position
+returns-in-None-position c =
+    let t = c.args.text.now in
+    let end = c.loop-chunk.end in
+    let stop = rw c.in-None-position.is at (found (goal.at.returns-in-None-position c).After-position) in
+    run_to is_word_byte t c.args.at _ c.requires (omega (arith, length-drop end t, run_ends is_word_byte (drop end t) stop))

@@ -1,6 +1,5 @@
 use mathlib.Core.Path.{refl}
 use Rattle.dhcid_text.specs.DhcidReading.{After}
-use borrow.Author.Rules.{rules}
 use Rattle.dhcid_text.proofs.DhcidWords.begin.Goals as goal
 
 pub returns : goal.returns

@@ -1,24 +1,22 @@
-use native.Mathlib.Omega.{arith}
 use Rattle.dhcid_text.proofs.DhcidWordLaws.{after_nothing, next_base64, after_marker, still_refused}
-use borrow.Author.Rules.{rules}
 use Rattle.dhcid_text.proofs.DhcidWords.word.Goals as goal
 
-pub returns-in-0 : goal.returns-in-0
-returns-in-0 c =
+pub returns-in-Nothing : goal.returns-in-Nothing
+returns-in-Nothing c =
     let a = c.args in
-    λ ws h. after_nothing ws a.word.now a.self _ c.in-0.is c.first_word.ensures h
+    λ ws h. after_nothing ws a.word.now a.self _ c.in-Nothing.is c.first_word.ensures h
 
-pub returns-in-1 : goal.returns-in-1
-returns-in-1 c =
+pub returns-in-Base64 : goal.returns-in-Base64
+returns-in-Base64 c =
     let a = c.args in
-    λ ws h. next_base64 ws a.word.now a.self _ c.in-1.is c.base64_word.ensures h
+    λ ws h. next_base64 ws a.word.now a.self _ c.in-Base64.is c.base64_word.ensures h
 
-pub returns-in-2 : goal.returns-in-2
-returns-in-2 c =
+pub returns-in-Marked : goal.returns-in-Marked
+returns-in-Marked c =
     let a = c.args in
-    λ ws h. after_marker ws a.word.now a.self _ c.in-2.is c.length_word.ensures h
+    λ ws h. after_marker ws a.word.now a.self _ c.in-Marked.is c.length_word.ensures h
 
-pub returns-in_default : goal.returns-in_default
-returns-in_default c =
+pub returns-in-Refused : goal.returns-in-Refused
+returns-in-Refused c =
     let a = c.args in
-    λ ws h. still_refused ws a.word.now a.self a.self (omega arith) h
+    λ ws h. still_refused ws a.word.now a.self a.self c.in-Refused.is h

@@ -1,7 +1,4 @@
-use mathlib.Core.Path.{◌≡◌}
 use native.Mathlib.Omega.{arith}
-use lib.ListN.{length}
-use Rattle.base.specs.Bytes.{zero_filled}
 use Rattle.entry.proofs.NextLaws.{word_is, no_word}
 use Rattle.entry.proofs.DataLaws.{no_address, an_a, an_aaaa}
 use borrow.Author.Rules.{rules}
@@ -33,21 +30,16 @@ returns-then-rtype-eq-TYPE_A c =
     let a = c.args in
     let n = c.next_word in
     let h = word_is a.text.now a.at a.inside n.result n.ensures c.in-Word.is in
-    let r = c.read_a-a in
-    let four : length r.result.bytes ≡ 4 = search rules in
-    an_a a.text.now a.at a.inside a.rtype h r.result.found r.result.bytes c.zero_filled.result c.zero_filled.ensures c.if-rtype-eq-TYPE_A.true four r.ensures
+    an_a a.text.now a.at a.inside a.rtype h c.read_a.result c.filled.result c.filled.ensures c.if-rtype-eq-TYPE_A.true c.read_a.ensures
 
 pub returns-else-rtype-eq-TYPE_A : goal.returns-else-rtype-eq-TYPE_A
 returns-else-rtype-eq-TYPE_A c =
     let a = c.args in
     let n = c.next_word in
     let h = word_is a.text.now a.at a.inside n.result n.ensures c.in-Word.is in
-    let r = c.read_aaaa-a in
-    let sixteen : length r.result.bytes ≡ 16 = search rules in
-    an_aaaa a.text.now a.at a.inside a.rtype h r.result.found r.result.bytes c.zero_filled-in-Word.result c.zero_filled-in-Word.ensures c.if-rtype-eq-TYPE_A.false sixteen r.ensures
+    an_aaaa a.text.now a.at a.inside a.rtype h c.read_aaaa.result c.filled-in-Word.result c.filled-in-Word.ensures c.if-rtype-eq-TYPE_A.false c.read_aaaa.ensures
 
 pub returns-in_default : goal.returns-in_default
-unfolding zero_filled
 returns-in_default c =
     let a = c.args in
     let n = c.next_word in

@@ -54,7 +54,6 @@ returns-in_default c =
     let a = c.args in
     let t = a.text.now in
     let n = c.next_word in
-    let long : length c.finish-read.result.bytes ≡ 35 = search rules in
     all_read t a.at a.inside c.loop-start.words c.loop-start.i c.loop-start.within c.loop-start.invariant
-    (no_word t c.loop-start.i c.loop-start.within n.result c.in_default.not-Word n.ensures) c.finish-read.result.found c.finish-read.result.bytes long
-    c.finish-read.ensures
+    (no_word t c.loop-start.i c.loop-start.within n.result c.in_default.not-Word n.ensures) c.finish.result c.filled.result c.filled.ensures
+    c.finish.ensures

@@ -1,19 +1,10 @@
 use native.Mathlib.Omega.{arith}
 use Rattle.base.proofs.Tests.{no_by}
-use Rattle.name.proofs.WireLaws.{proper_short}
-use Rattle.name.proofs.NotInLabelLaws.{proper_two, held_decides, hopped_none, hopped_not_in_label, hopped_last, hopped_long, hopped_more, hopped_end}
+use Rattle.name.proofs.NotInLabelLaws.{proper_two, held_decides, hopped_not_in_label, hopped_last, hopped_long, hopped_more, hopped_end}
 use Rattle.name.proofs.wire.is_canonical.Goals as goal
-
-pub returns-then-n-gt-LONGEST : goal.returns-then-n-gt-LONGEST
-returns-then-n-gt-LONGEST c = no_by (λ h. omega (arith, proper_short _ h.0))
 
 pub returns-then-n-lt2 : goal.returns-then-n-lt2
 returns-then-n-lt2 c = no_by (λ h. omega (arith, proper_two _ h.0))
-
-pub loop-i-init : goal.loop-i-init
-loop-i-init c =
-    let n = c.args.name.now in
-    rw c.count_not_in_label-left.ensures (hopped_none n)
 
 pub returns-then-b-eq0 : goal.returns-then-b-eq0
 returns-then-b-eq0 c =

@@ -3,14 +3,11 @@ use lib.ListN.{length}
 use Rattle.name.specs.NotInLabel.{Agree}
 use Rattle.name.proofs.wire.matches.Given as goal
 
+abbrev pub invariant-loop-at : goal.invariant-loop-at
+invariant-loop-at l = (l.at ≤ length l.name) × Agree l.name l.held 0 l.at
+
+abbrev pub decreases-loop-at : goal.decreases-loop-at
+decreases-loop-at l = length l.name - l.at
+
 abbrev pub invariant-loop-i : goal.invariant-loop-i
-invariant-loop-i l = (l.i ≤ length l.name) × Agree l.name l.held 0 l.i
-
-abbrev pub decreases-loop-i : goal.decreases-loop-i
-decreases-loop-i l = length l.name - l.i
-
-abbrev pub invariant-loop-i-2 : goal.invariant-loop-i-2
-invariant-loop-i-2 l = (l.i ≤ length l.name) × Agree l.name l.held 0 l.i
-
-abbrev pub decreases-loop-i-2 : goal.decreases-loop-i-2
-decreases-loop-i-2 l = length l.name - l.i
+invariant-loop-i l = Agree l.name l.held 0 l.i

@@ -1,9 +1,7 @@
-use Prim.Native.Nat.{◌-◌}
-use Rattle.name.proofs.MatchLaws.{Agreeing}
+use Prim.Native.Nat.{◌+◌}
+use Rattle.base.specs.Logic.{Decides}
+use Rattle.name.specs.NotInLabel.{Agree}
 use Rattle.name.proofs.wire.matches_chunk.Given as goal
 
 abbrev pub invariant-loop-i : goal.invariant-loop-i
-invariant-loop-i l = Agreeing l.name l.held l.at l.same l.i
-
-abbrev pub decreases-loop-i : goal.decreases-loop-i
-decreases-loop-i l = 16 - l.i
+invariant-loop-i l = Decides l.same (Agree l.name l.held l.at (l.at + l.i))

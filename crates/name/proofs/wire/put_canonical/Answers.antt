@@ -1,12 +1,9 @@
 use mathlib.Core.Path.{sym, ◌∙◌}
 use native.Mathlib.Omega.{arith}
-use Rattle.base.proofs.Fill.{copied_none, copied_more, copied_all}
+use Rattle.base.proofs.Fill.{copied_more, copied_all}
 use Rattle.name.specs.Name.{canonical}
 use Rattle.name.proofs.NameLaws.{length_canonical, get_or_canonical}
 use Rattle.name.proofs.wire.put_canonical.Goals as goal
-
-pub loop-i-init : goal.loop-i-init
-loop-i-init c = copied_none c.args.to.now c.args.at (canonical c.args.name.now)
 
 pub loop-i-preserved : goal.loop-i-preserved
 loop-i-preserved c =
@@ -15,9 +12,6 @@ loop-i-preserved c =
     let i = c.loop-i.i in
     copied_more a.to.now a.at (canonical n) _ _ _ c.loop-i.invariant
     (c.lower.ensures ∙ sym (get_or_canonical n i)) (omega (arith, length_canonical n)) (omega (arith, length_canonical n))
-
-pub shape_of-to : goal.shape_of-to
-shape_of-to c = c.loop-i.invariant.long
 
 pub returns : goal.returns
 returns c =

@@ -1,8 +1,0 @@
-use native.Mathlib.Nat.{div-one}
-use Rattle.base.specs.Bytes.{big_endian}
-use borrow.Author.Rules.{rules}
-use Rattle.address.proofs.be16_bytes.Goals as goal
-
-pub returns : goal.returns
-unfolding big_endian
-returns c = simp div-one
