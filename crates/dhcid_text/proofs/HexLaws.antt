@@ -19,7 +19,7 @@ two_of (a ∷ []) x y e ex ey = absurd (omega arith)
 two_of (a ∷ b ∷ []) x y e ex ey = λ i. ex i ∷ ey i ∷ []
 two_of (a ∷ b ∷ c ∷ w) x y e ex ey = absurd (omega arith)
 
--- one element more, and two more
+-- one element more
 pub take_one : (a l : List ℕ) (i : ℕ) → i < length l → a ++ take i l ++ get_or l i 0 ∷ [] ≡ a ++ take (i + 1) l
 take_one a l i lt = append_assoc a (take i l) (get_or l i 0 ∷ []) ∙ ap (λ (t : List ℕ). a ++ t) (sym (take-suc l i 0 lt) ∙ ap (λ (k : ℕ). take k l) (sym (add-one i)))
 

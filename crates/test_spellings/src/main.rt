@@ -55,11 +55,13 @@ fn aaaa(word: &[u8]) {
     }
 }
 
-// The words are parted by single blanks.
+// The words are parted by single blanks; of no bytes there is no word.
 fn read_words(words: &[u8]) -> Option<[u8; 35]> {
     let mut state = DhcidWords::begin();
-    for word in words.split(|b| *b == b' ') {
-        state = state.word(word);
+    if !words.is_empty() {
+        for word in words.split(|b| *b == b' ') {
+            state = state.word(word);
+        }
     }
     state.finish()
 }
